@@ -107,7 +107,7 @@ const DAMAGES: [(usize, u8, usize, usize, FormatRule); 23] = [
     (97, 3, 97, 98, FormatRule::Number),
     (98, 1, 98, 99, FormatRule::Number),
     (98, 3, 98, 99, FormatRule::Number),
-    (99, 1, 99, 100, FormatRule::Number),
+    (99, 2, 99, 100, FormatRule::Number),
 ];
 
 // The damage of a field that breaks the rule.
@@ -150,4 +150,12 @@ fn another_index_is_read(rt: HostRuntime) {
         let manifest = opened(&rt, rt.alloc(), &bytes).expect(&rt, "a manifest");
         assert!(rt; !lists_both(&manifest), "{byte} at {at}");
     }
+}
+
+// Of an index of numbers the byte that says whether letters are folded means nothing.
+#[test]
+fn index_of_numbers_is_read_with_either_byte(rt: HostRuntime) {
+    let bytes = changed(&rt, rt.alloc(), &INDEXED, 99, 1);
+    let manifest = opened(&rt, rt.alloc(), &bytes).expect(&rt, "a manifest");
+    assert!(rt; lists_both(&manifest));
 }

@@ -30,12 +30,11 @@ use Rattle.sasi_schema.specs.SchemaViews.{IsNewIndex, index_of_new, numbered_def
 use Rattle.sasi_schema.specs.declared.index.NewIndex.{NewIndex}
 use Rattle.sasi_formats.proofs.Fitting.{both_true}
 use Rattle.sasi_manifest.proofs.Defining.{CanIndex, index_applies}
-use Rattle.sasi_manifest.specs.declared.edit.Edit.TheVariants as edits
 use Rattle.sasi_manifest.specs.declared.listing.Listing.{Listing}
 use Rattle.sasi_manifest.specs.Edits.{Applies, definition_at, index_names, index_numbers, is_rule_code, rule_code}
 use Rattle.sasi_manifest.specs.ListedDefinition.{ListedDefinition}
 use Rattle.sasi_manifest.specs.ListedFiles.{is_among}
-use Rattle.sasi_manifest.specs.Listings.{listed_definitions}
+use Rattle.sasi_manifest.specs.Listings.{index_edit, listed_definitions}
 use Rattle.sasi_manifest.specs.Naming.{IsFree}
 use Rattle.sasi_folder.proofs.Creating.{IsOut, apart_at, free_of, none_applies, not_false}
 
@@ -171,7 +170,7 @@ numbers_above high number (t ∷ tables) all above = number_above high number t.
 pub can_define : (listing : Listing) (s : State) (name : Option (List ℕ)) (table column class : List ℕ) (options : List IndexOption) (stepped : Bool) (new : NewIndex) (number : ℕ)
     → definitions s.tables ≡ listed_definitions listing.tables → IsWellFormed (CreateIndex name table column class options stepped) → refusal s (CreateIndex name table column class options stepped) ≡ None
     → IsNewIndex (definitions s.tables) name table column options new → new.table < 2 ^ 32 → new.column < 2 ^ 16 → 1 ≤ number → number < 2 ^ 32 → is_among (index_numbers listing.tables) number ≡ false
-    → Applies (Some listing) (edits.CreateIndex (numbered_def number new))
+    → Applies (Some listing) (index_edit (numbered_def number new))
 unfolding refusal
 can_define listing s name table column class options stepped new number same_tables written taken is small narrow some fits free =
     let tables = definitions s.tables in

@@ -16,12 +16,11 @@ use Rattle.sasi_host.specs.declared.name.FileName.{FileName}
 use Rattle.sasi_host.proofs.ChangeLaws.{at_each_moment}
 use Rattle.sasi_commitlog.specs.Format.{Tables}
 use Rattle.sasi_manifest.specs.Format.{IsManifest, IsNext}
-use Rattle.sasi_manifest.specs.Listings.{after_all, listed_with_index, with_record_counted}
+use Rattle.sasi_manifest.specs.Listings.{after_all, index_edit, listed_with_index, with_record_counted}
 use Rattle.sasi_manifest.specs.Edits.{encoded}
 use Rattle.sasi_manifest.specs.ListedDefinition.{ListedDefinition}
 use Rattle.sasi_manifest.specs.OpenManifest.{ManifestStands}
 use Rattle.sasi_manifest.specs.declared.edit.Edit.{Edit}
-use Rattle.sasi_manifest.specs.declared.edit.Edit.TheVariants.{CreateIndex}
 use Rattle.sasi_model.specs.Changes.{at_number}
 use Rattle.sasi_manifest.specs.Types.{numbered_types}
 use Rattle.sasi_manifest.specs.declared.listing.Listing.{Listing}
@@ -103,7 +102,7 @@ defined_tables table index l t there = seen_at listed_of (define_table (suc l.us
 -- A new index is one record.
 pub define_is_next : (table : ℕ) (index : Index) (l : Layout) (t : TableParts) → numbered 1 table l.tables ≡ Some t → IsNext (listing_of l) (define_edits table index l) (listing_of (after_define table index l))
 define_is_next table index l t there =
-    let edits : define_edits table index l ≡ CreateIndex (index_def (suc l.used.index) table index t.definition) ∷ [] = ap (λ (o : Option TableParts). option_map_or (λ t. CreateIndex (index_def (suc l.used.index) table index t.definition) ∷ []) o []) there in
+    let edits : define_edits table index l ≡ index_edit (index_def (suc l.used.index) table index t.definition) ∷ [] = ap (λ (o : Option TableParts). option_map_or (λ t. index_edit (index_def (suc l.used.index) table index t.definition) ∷ []) o []) there in
     ap (λ (ts : List ListedDefinition). Some (record (listing_of (after_define table index l)) { tables = ts })) (defined_tables table index l t there)
     ∙ ap (λ (es : List Edit). with_record_counted (encoded (define_edits table index l)) (after_all (Some (listing_of l)) es)) (sym edits)
 

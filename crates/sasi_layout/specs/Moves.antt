@@ -11,9 +11,10 @@ use Rattle.sasi_model.specs.Abbreviations.{kind_of}
 use Rattle.sasi_model.specs.Changes.{at_number, state_with_index, with_new_table}
 use Rattle.sasi_model.specs.State.{Definition, Index, State, decorated, with_index}
 use Rattle.sasi_manifest.specs.declared.edit.Edit.{Edit}
-use Rattle.sasi_manifest.specs.declared.edit.Edit.TheVariants.{CreateIndex, CreateTable, Replace}
+use Rattle.sasi_manifest.specs.declared.edit.Edit.TheVariants.{CreateTable, Replace}
 use Rattle.sasi_manifest.specs.declared.files.ListedFile.{ListedFile}
 use Rattle.sasi_manifest.specs.Edits.{encoded}
+use Rattle.sasi_manifest.specs.Listings.{index_edit}
 use Rattle.sasi_layout.specs.Layout.{File, Layout, TableParts, numbered, unflushed}
 
 -- the first, and else the second
@@ -106,7 +107,7 @@ index_def number table index d = record { number = number; table = table; name =
 
 -- the manifest's record of it
 abbrev pub define_edits : ℕ → Index → Layout → List Edit
-define_edits table index l = option_map_or (λ t. CreateIndex (index_def (suc l.used.index) table index t.definition) ∷ []) (numbered 1 table l.tables) []
+define_edits table index l = option_map_or (λ t. index_edit (index_def (suc l.used.index) table index t.definition) ∷ []) (numbered 1 table l.tables) []
 
 -- an index is defined on the table, under the next index number
 abbrev pub after_define : ℕ → Index → Layout → Layout

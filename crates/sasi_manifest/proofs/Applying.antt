@@ -96,7 +96,7 @@ no_replace table removed added since floor last h = let range = fits_range w8 1 
 pub first_is_start : (e : Edit) → Applies None e → ((p : Partitioner) (floor last : ℕ) → e ≡ Start p floor last → ⊥) → ⊥
 first_is_start (Start p floor last) h not = not p floor last refl
 first_is_start (CreateTable number title columns position since) h not = no_create number title columns position since h
-first_is_start (CreateIndex def) h not = no_index def h
+first_is_start (CreateIndex def fold) h not = no_index def fold h
 first_is_start (Replace table removed added since floor last) h not = no_replace table removed added since floor last h
 
 -- ---- a new table
@@ -302,8 +302,8 @@ writable None (CreateTable number title columns position since) h = absurd (no_c
 writable (Some listing) (CreateTable number title columns position since) h =
     let can = applies_create listing number title columns position since h in
     (can.name_fits.short, can.few_columns, can.column_names)
-writable None (CreateIndex def) h = absurd (no_index def h)
-writable (Some listing) (CreateIndex def) h = (let can = applies_index listing def h in can.name_is.short)
+writable None (CreateIndex def fold) h = absurd (no_index def fold h)
+writable (Some listing) (CreateIndex def fold) h = (let can = applies_index listing def fold h in can.name_is.short)
 writable None (Replace table removed added since floor last) h = absurd (no_replace table removed added since floor last h)
 writable (Some listing) (Replace table removed added since floor last) h =
     let can = applies_replace listing table removed added since floor last h in

@@ -30,7 +30,7 @@ all_both P (x ∷ xs) ys first second = (first.0, all_both P xs ys first.1 secon
 edit_consistent : (from : Option Listing) (edit : Edit) → Applies from edit → ConsistentIf from → ConsistentIf (after from edit)
 edit_consistent None (Start p floor last) applies known = record { start = applies_start p floor last applies; since = tt; files = tt; apart = λ n. omega arith; indexes = tt; numbers = λ n. omega arith; names = λ name. omega arith }
 edit_consistent None (CreateTable number name columns key since) applies known = absurd (no_create number name columns key since applies)
-edit_consistent None (CreateIndex def) applies known = absurd (no_index def applies)
+edit_consistent None (CreateIndex def fold) applies known = absurd (no_index def fold applies)
 edit_consistent (Some listing) (Start p floor last) applies known = absurd (no_start listing p floor last applies)
 edit_consistent (Some listing) (CreateTable number name columns key since) applies known =
     let can = applies_create listing number name columns key since applies in
@@ -43,7 +43,7 @@ edit_consistent (Some listing) (CreateTable number name columns key since) appli
       numbers = λ n. subst (λ (l : List ℕ). count_by (nat_eq n) l ≤ 1) (sym (parts_push (λ t. t.numbers) listing.tables (created_table name columns key since) refl)) (known.numbers n);
       names = λ other. subst (λ (l : List Bytes). count_by (same other) l ≤ 1) (sym (names_push listing.tables (created_table name columns key since) refl)) (known.names other);
     }
-edit_consistent (Some listing) (CreateIndex def) applies known = define_consistent listing def (applies_index listing def applies) known
+edit_consistent (Some listing) (CreateIndex def fold) applies known = define_consistent listing def (applies_index listing def fold applies) known
 edit_consistent None (Replace table removed added since floor last) applies known = absurd (no_replace table removed added since floor last applies)
 edit_consistent (Some listing) (Replace table removed added since floor last) applies known =
     let can = applies_replace listing table removed added since floor last applies in

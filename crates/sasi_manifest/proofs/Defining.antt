@@ -22,10 +22,10 @@ use Rattle.sasi_formats.specs.Formats.{Fits}
 use Rattle.sasi_formats.proofs.Fitting.{both_true, number_fits, fits_number, checked_fits, fits_checked, range_fits, fits_range}
 use Rattle.sasi_manifest.specs.declared.edit.Edit.TheVariants.{CreateIndex}
 use Rattle.sasi_manifest.specs.declared.listing.Listing.{Listing}
-use Rattle.sasi_manifest.specs.Edits.{Applies, analysis, any_mode, create_index, definition_at, edit, folding, index_names, index_number, index_numbers, is_later_tag, is_open_column, is_rule_code, later_tag, mode, new_index_def, on_column, rule_byte, rule_code}
+use Rattle.sasi_manifest.specs.Edits.{Applies, EditFields, analysis, any_mode, create_index, definition_at, edit, folding, index_names, index_number, index_numbers, is_later_tag, is_open_column, is_rule_code, later_tag, mode, new_index_def, on_column, rule_byte, rule_code}
 use Rattle.sasi_manifest.specs.ListedDefinition.{ListedDefinition}
 use Rattle.sasi_manifest.specs.ListedFiles.{is_among}
-use Rattle.sasi_manifest.specs.Listings.{listed_definitions}
+use Rattle.sasi_manifest.specs.Listings.{fold_of, index_edit, listed_definitions}
 use Rattle.sasi_manifest.specs.Naming.{IsName, IsFree}
 use Rattle.sasi_manifest.proofs.NameFits.{FitsName, fits_name, not_any, open_name_fits}
 
@@ -40,8 +40,8 @@ flag_fits : (b : Bool) → Fits flag b
 flag_fits false = (number_fits w8 0 (omega arith), refl)
 flag_fits true = (number_fits w8 1 (omega arith), refl)
 
-folding_fits : (r : Option Rule) → Fits (folding (rule_code r)) r
-folding_fits None = ((refl, refl), refl)
+folding_fits : (r : Option Rule) → Fits (folding (rule_code r)) (r, fold_of r)
+folding_fits None = (flag_fits false, refl)
 folding_fits (Some (Whole fold)) = (flag_fits fold, refl)
 folding_fits (Some (Words fold)) = (flag_fits fold, refl)
 
@@ -50,12 +50,12 @@ code_small None = omega arith
 code_small (Some (Whole fold)) = omega arith
 code_small (Some (Words fold)) = omega arith
 
-own_code : (r : Option Rule) (type : ColumnType) → Fits (rule_byte type) (rule_code r) → Fits (analysis type) r
+own_code : (r : Option Rule) (type : ColumnType) → Fits (rule_byte type) (rule_code r) → Fits (analysis type) (r, fold_of r)
 own_code None type fits = ((fits, folding_fits None), refl)
 own_code (Some (Whole fold)) type fits = ((fits, folding_fits (Some (Whole fold))), refl)
 own_code (Some (Words fold)) type fits = ((fits, folding_fits (Some (Words fold))), refl)
 
-analysis_fits : (r : Option Rule) (type : ColumnType) → is_rule_code (is_text type) (rule_code r) ≡ true → Fits (analysis type) r
+analysis_fits : (r : Option Rule) (type : ColumnType) → is_rule_code (is_text type) (rule_code r) ≡ true → Fits (analysis type) (r, fold_of r)
 analysis_fits r type is = own_code r type (checked_fits rule.Number 1 (is_rule_code (is_text type)) (number w8) (rule_code r) (number_fits w8 (rule_code r) (code_small r)) is)
 
 -- ---- a new index
@@ -71,7 +71,7 @@ pub record CanIndex (d : Definition) (def : IndexDef) : Type 0 where
   pub rule : is_rule_code (is_text (kind_of d def.column)) (rule_code def.rule) ≡ true
   pub kind : def.kind ≡ kind_of d def.column
 
-column_fits : (d : Definition) (def : IndexDef) → CanIndex d def → Fits (on_column d) (def.column, (def.mode, def.rule))
+column_fits : (d : Definition) (def : IndexDef) → CanIndex d def → Fits (on_column d) (def.column, (def.mode, (def.rule, fold_of def.rule)))
 column_fits d def can =
     let open_column : is_open_column d def.column ≡ true = ap (λ b. b && not (is_some (index_on def.column d.indexes))) can.typed ∙ ap not can.column_free in
     let range = range_fits w16 1 (length d.columns - 1) def.column can.column_fits can.column_some can.column_within in (
@@ -79,8 +79,8 @@ column_fits d def can =
       (checked_fits rule.Number 1 (λ m. mode_fits m (kind_of d def.column)) any_mode def.mode (mode_fits_byte def.mode) can.mode, analysis_fits def.rule (kind_of d def.column) can.rule),
     )
 
-fits_column : (d : Definition) (def : IndexDef) → Fits (on_column d) (def.column, (def.mode, def.rule)) → def.kind ≡ kind_of d def.column → CanIndex d def
-fits_column d def h kind_is =
+fits_column : (d : Definition) (def : IndexDef) (fold : Bool) → Fits (on_column d) (def.column, (def.mode, (def.rule, fold))) → def.kind ≡ kind_of d def.column → CanIndex d def
+fits_column d def fold h kind_is =
     let open_column = fits_checked rule.Number 2 (is_open_column d) (in_range w16 1 (length d.columns - 1)) def.column h.0 in
     let range = fits_range w16 1 (length d.columns - 1) def.column open_column.0 in
     let tests = both_true (mode_fits modes.Prefix (kind_of d def.column)) (not (is_some (index_on def.column d.indexes))) open_column.1 in
@@ -109,7 +109,7 @@ pub record CanDefine (listing : Listing) (def : IndexDef) : Type 0 where
   pub name_free : IsFree (index_names (listed_definitions listing.tables)) def.name
   pub on_table : CanIndex (definition_at (listed_definitions listing.tables) def.table) def
 
-pub index_applies : (listing : Listing) (def : IndexDef) → CanDefine listing def → Applies (Some listing) (CreateIndex def)
+pub index_applies : (listing : Listing) (def : IndexDef) → CanDefine listing def → Applies (Some listing) (index_edit def)
 unfolding edit create_index
 index_applies listing def can =
     let ds = listed_definitions listing.tables in
@@ -119,19 +119,20 @@ index_applies listing def can =
     let placed = range_fits w32 1 (length ds) def.table can.table_fits can.table_some (omega (arith, can.table_within, counted)) in
     let named = open_name_fits (index_names ds) def.name can.name_is can.name_free in
     let tag = checked_fits rule.Number 1 is_later_tag (number w8) 3 (number_fits w8 3 (omega arith)) refl in
-    let whole : Some (record def { kind = kind_of (definition_at ds def.table) def.column }) ≡ Some def = ap (λ k. Some (record def { kind = k })) (sym can.on_table.kind) in
-    let fields : Fits (new_index_def listing.tables) def = ((numbered, (placed, (named, column_fits (definition_at ds def.table) def can.on_table))), whole) in
+    let fold = fold_of def.rule in
+    let whole : Some (record def { kind = kind_of (definition_at ds def.table) def.column }, fold) ≡ Some (def, fold) = ap (λ k. Some (record def { kind = k }, fold)) (sym can.on_table.kind) in
+    let fields : Fits (new_index_def listing.tables) (def, fold) = ((numbered, (placed, (named, column_fits (definition_at ds def.table) def can.on_table))), whole) in
     ((tag, (fields, refl)), refl)
 
-same_kind : (def made : IndexDef) → Some made ≡ Some def → def.kind ≡ made.kind
-same_kind def made is = (let same : made ≡ def = cc in sym (ap (λ (d : IndexDef). d.kind) same))
+same_kind : (fields made : EditFields) → Some made ≡ Some fields → fields.0.kind ≡ made.0.kind
+same_kind fields made is = (let same : made ≡ fields = cc in sym (ap (λ (f : EditFields). f.0.kind) same))
 
-pub applies_index : (listing : Listing) (def : IndexDef) → Applies (Some listing) (CreateIndex def) → CanDefine listing def
+pub applies_index : (listing : Listing) (def : IndexDef) (fold : Bool) → Applies (Some listing) (CreateIndex def fold) → CanDefine listing def
 unfolding edit create_index
-applies_index listing def h =
+applies_index listing def fold h =
     let ds = listed_definitions listing.tables in
     let fields = h.0.1.0.0 in
-    let kind_is : def.kind ≡ kind_of (definition_at ds def.table) def.column = same_kind def (record def { kind = kind_of (definition_at ds def.table) def.column }) h.0.1.0.1 in
+    let kind_is : def.kind ≡ kind_of (definition_at ds def.table) def.column = same_kind (def, fold) (record def { kind = kind_of (definition_at ds def.table) def.column }, fold) h.0.1.0.1 in
     let numbered = fits_checked rule.Number 4 (λ n. not (is_among (index_numbers listing.tables) n)) (in_range w32 1 (2 ^ 32 - 1)) def.number fields.0 in
     let range = fits_range w32 1 (2 ^ 32 - 1) def.number numbered.0 in
     let counted : length ds ≡ length listing.tables = length-map listing.tables (λ (t : ListedDefinition). t.definition) in
@@ -146,13 +147,13 @@ applies_index listing def h =
       table_fits = placed.fits;
       name_is = named.is;
       name_free = named.free;
-      on_table = fits_column (definition_at ds def.table) def fields.1.1.1 kind_is;
+      on_table = fits_column (definition_at ds def.table) def fold fields.1.1.1 kind_is;
     }
 
 -- a manifest doesn't begin with one
-pub no_index : (def : IndexDef) → Applies None (CreateIndex def) → ⊥
+pub no_index : (def : IndexDef) (fold : Bool) → Applies None (CreateIndex def fold) → ⊥
 unfolding edit
-no_index def h = (let range = fits_range w8 1 1 3 h.0.0 in omega (arith, range.below))
+no_index def fold h = (let range = fits_range w8 1 1 3 h.0.0 in omega (arith, range.below))
 
 -- ---- it is an index of a listed table
 

@@ -1,5 +1,5 @@
 -- The bytes of edits: they are the same whatever is listed, and each edit has at least one.
-use Rattle.std.proofs.Common.{◌≡◌, ◌<◌, ◌≤◌, ◌+◌, ◌*◌, ◌^◌, ℕ, List, [], ◌∷◌, ◌++◌, length, drop, get_or, Option, None, Some, refl, sym, ap, ◌∙◌, arith, length-append, append-nil, append_assoc, subst}
+use Rattle.std.proofs.Common.{◌≡◌, ◌<◌, ◌≤◌, ◌+◌, ◌*◌, ◌^◌, ℕ, Bool, List, [], ◌∷◌, ◌++◌, length, drop, get_or, Option, None, Some, refl, sym, ap, ◌∙◌, arith, length-append, append-nil, append_assoc, subst}
 use Rattle.std.proofs.lemmas.List.{drop_all, drop_more}
 use Rattle.std.specs.List.{AllByRecursion, flat_map, sum_by}
 use Rattle.std.proofs.lemmas.List.Sums.{sum_by-cons}
@@ -85,7 +85,7 @@ unfolding edit create_index
 same_edit None e = refl
 same_edit (Some listing) (Start _ _ _) = refl
 same_edit (Some listing) (CreateTable _ _ _ _ _) = refl
-same_edit (Some listing) (CreateIndex _) = refl
+same_edit (Some listing) (CreateIndex _ _) = refl
 same_edit (Some listing) (Replace table removed added since floor last) =
     ap (λ (l : Bytes). to_be_bytes w8 5 ++ l) (replace_bytes listing.tables table removed added since floor last ∙ sym (replace_bytes [] table removed added since floor last))
 
@@ -118,17 +118,17 @@ create_length number name all key since =
     let last = to_be_bytes w16 key ++ to_be_bytes w32 since in
     omega (arith, length-append name (formats.encoded columns all ++ last), length-append (formats.encoded columns all) last)
 
-rule_length : (r : Option Rule) → length (formats.encoded (folding (rule_code r)) r) ≡ 1
-rule_length None = refl
-rule_length (Some (Whole fold)) = refl
-rule_length (Some (Words fold)) = refl
+rule_length : (r : Option Rule) (fold : Bool) → length (formats.encoded (folding (rule_code r)) (r, fold)) ≡ 1
+rule_length None fold = refl
+rule_length (Some (Whole _)) fold = refl
+rule_length (Some (Words _)) fold = refl
 
 -- that of an edit that adds an index
-pub index_length : (def : IndexDef) → length (edit_bytes (CreateIndex def)) ≡ 15 + length def.name
+pub index_length : (def : IndexDef) (fold : Bool) → length (edit_bytes (CreateIndex def fold)) ≡ 15 + length def.name
 unfolding edit create_index
-index_length def =
-    let last = formats.encoded (folding (rule_code def.rule)) def.rule in
-    omega (arith, rule_length def.rule, length-append def.name (to_be_bytes w16 def.column ++ (to_be_bytes w8 (mode_code def.mode) ++ (to_be_bytes w8 (rule_code def.rule) ++ last))))
+index_length def fold =
+    let last = formats.encoded (folding (rule_code def.rule)) (def.rule, fold) in
+    omega (arith, rule_length def.rule fold, length-append def.name (to_be_bytes w16 def.column ++ (to_be_bytes w8 (mode_code def.mode) ++ (to_be_bytes w8 (rule_code def.rule) ++ last))))
 
 columns_size : (all : List Column) → AreNames (names_in all) → length (flat_map column_bytes all) ≤ 50 * length all
 columns_size [] names = omega arith
@@ -172,10 +172,10 @@ replace_length table removed added since floor last =
     )
 
 -- are small
-pub index_short : (listing : Listing) (def : IndexDef) → Applies (Some listing) (CreateIndex def) → length (encoded (CreateIndex def ∷ [])) ≤ 4096
-index_short listing def applies =
-    let can = applies_index listing def applies in
-    omega (arith, can.name_is.short, encoded_length (CreateIndex def ∷ []), length-append (edit_bytes (CreateIndex def)) [], index_length def)
+pub index_short : (listing : Listing) (def : IndexDef) (fold : Bool) → Applies (Some listing) (CreateIndex def fold) → length (encoded (CreateIndex def fold ∷ [])) ≤ 4096
+index_short listing def fold applies =
+    let can = applies_index listing def fold applies in
+    omega (arith, can.name_is.short, encoded_length (CreateIndex def fold ∷ []), length-append (edit_bytes (CreateIndex def fold)) [], index_length def fold)
 
 pub create_short : (listing : Listing) (number : ℕ) (name : Bytes) (all : List Column) (key since : ℕ) → Applies (Some listing) (CreateTable number name all key since) → length (encoded (CreateTable number name all key since ∷ [])) ≤ 4096
 create_short listing number name all key since applies =
@@ -196,7 +196,7 @@ some_byte : (e : Edit) → 1 ≤ length (edit_bytes e)
 unfolding edit
 some_byte (Start _ _ _) = omega arith
 some_byte (CreateTable _ _ _ _ _) = omega arith
-some_byte (CreateIndex _) = omega arith
+some_byte (CreateIndex _ _) = omega arith
 some_byte (Replace _ _ _ _ _ _) = omega arith
 
 many_bytes : (es : List Edit) → length es ≤ length (flat_map edit_bytes es)

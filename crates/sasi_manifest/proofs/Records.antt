@@ -162,18 +162,18 @@ still_listed : (listing : Listing) (es : List Edit) → ApplyInTurn (Some listin
 still_listed listing [] all none = cc
 still_listed listing (Start p floor last ∷ es) all none = absurd (no_start listing p floor last all.0)
 still_listed listing (CreateTable n name columns key since ∷ es) all none = still_listed (with_listed_table (created_table name columns key since) listing) es all.1 none
-still_listed listing (CreateIndex def ∷ es) all none = still_listed (with_defined_index def listing) es all.1 none
+still_listed listing (CreateIndex def fold ∷ es) all none = still_listed (with_defined_index def listing) es all.1 none
 still_listed listing (Replace table removed added since floor last ∷ es) all none = still_listed (record listing { floor = floor; last = last; tables = at_number 1 table (replaced removed added since) listing.tables }) es all.1 none
 
 listed_in_turn : (from : Option Listing) (es : List Edit) → ApplyInTurn from es → 1 ≤ length es → after_all from es ≡ None → ⊥
 listed_in_turn from [] all some none = omega (arith, some)
 listed_in_turn None (Start p floor last ∷ es) all some none = still_listed (started p floor last) es all.1 none
 listed_in_turn None (CreateTable n name columns key since ∷ es) all some none = absurd (no_create n name columns key since all.0)
-listed_in_turn None (CreateIndex def ∷ es) all some none = absurd (no_index def all.0)
+listed_in_turn None (CreateIndex def fold ∷ es) all some none = absurd (no_index def fold all.0)
 listed_in_turn None (Replace table removed added since floor last ∷ es) all some none = absurd (no_replace table removed added since floor last all.0)
 listed_in_turn (Some listing) (Start p floor last ∷ es) all some none = absurd (no_start listing p floor last all.0)
 listed_in_turn (Some listing) (CreateTable n name columns key since ∷ es) all some none = still_listed (with_listed_table (created_table name columns key since) listing) es all.1 none
-listed_in_turn (Some listing) (CreateIndex def ∷ es) all some none = still_listed (with_defined_index def listing) es all.1 none
+listed_in_turn (Some listing) (CreateIndex def fold ∷ es) all some none = still_listed (with_defined_index def listing) es all.1 none
 listed_in_turn (Some listing) (Replace table removed added since floor last ∷ es) all some none = still_listed (record listing { floor = floor; last = last; tables = at_number 1 table (replaced removed added since) listing.tables }) es all.1 none
 
 -- edits list something
@@ -184,11 +184,11 @@ sizes_in_turn : (from : Option Listing) (es : List Edit) → ApplyInTurn from es
 sizes_in_turn from [] all = (refl, refl)
 sizes_in_turn None (Start p floor last ∷ es) all = sizes_in_turn (Some (started p floor last)) es all.1
 sizes_in_turn None (CreateTable n name columns key since ∷ es) all = absurd (no_create n name columns key since all.0)
-sizes_in_turn None (CreateIndex def ∷ es) all = absurd (no_index def all.0)
+sizes_in_turn None (CreateIndex def fold ∷ es) all = absurd (no_index def fold all.0)
 sizes_in_turn None (Replace table removed added since floor last ∷ es) all = absurd (no_replace table removed added since floor last all.0)
 sizes_in_turn (Some listing) (Start p floor last ∷ es) all = absurd (no_start listing p floor last all.0)
 sizes_in_turn (Some listing) (CreateTable n name columns key since ∷ es) all = sizes_in_turn (Some (with_listed_table (created_table name columns key since) listing)) es all.1
-sizes_in_turn (Some listing) (CreateIndex def ∷ es) all = sizes_in_turn (Some (with_defined_index def listing)) es all.1
+sizes_in_turn (Some listing) (CreateIndex def fold ∷ es) all = sizes_in_turn (Some (with_defined_index def listing)) es all.1
 sizes_in_turn (Some listing) (Replace table removed added since floor last ∷ es) all = sizes_in_turn (Some (record listing { floor = floor; last = last; tables = at_number 1 table (replaced removed added since) listing.tables })) es all.1
 
 -- edits count no record

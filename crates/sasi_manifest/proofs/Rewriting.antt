@@ -8,7 +8,6 @@ use Rattle.std.proofs.lemmas.List.Sums.{fold-append}
 use Rattle.sasi_types.specs.declared.index_def.IndexDef.{IndexDef}
 use Rattle.sasi_host.specs.Names.{Bytes}
 use Rattle.sasi_model.specs.State.{Definition, Index}
-use Rattle.sasi_manifest.specs.declared.edit.Edit.TheVariants.{CreateIndex}
 use Rattle.sasi_manifest.specs.declared.files.ListedFile.{ListedFile}
 use Rattle.sasi_manifest.specs.declared.listing.Listing.{Listing}
 use Rattle.sasi_manifest.specs.Abbreviations.{started}
@@ -17,7 +16,7 @@ use Rattle.sasi_manifest.specs.Edits.{encoded}
 use Rattle.sasi_manifest.specs.Format.{IsRewritten, ListsSame}
 use Rattle.sasi_manifest.specs.ListedDefinition.{ListedDefinition}
 use Rattle.sasi_manifest.specs.ListedFiles.{with_file, with_files}
-use Rattle.sasi_manifest.specs.Listings.{after, after_all, all_defs, at_number, by_number, def_of, defs_of, file_edits, index_defs, index_edits, listed_with_index, with_def, files_edit, replaced, rewrite_edits, table_edits, with_record_counted}
+use Rattle.sasi_manifest.specs.Listings.{after, after_all, all_defs, at_number, by_number, def_of, defs_of, file_edits, index_defs, index_edit, index_edits, listed_with_index, with_def, files_edit, replaced, rewrite_edits, table_edits, with_record_counted}
 use Rattle.sasi_manifest.proofs.Replacing.{unchanged}
 
 -- ---- files that come in the order of their numbers
@@ -68,7 +67,7 @@ abbrev indexed : List IndexDef → List ListedDefinition → List ListedDefiniti
 indexed [] tables = tables
 indexed (def ∷ defs) tables = indexed defs (at_number 1 def.table (listed_with_index def) tables)
 
-indexed_all : (defs : List IndexDef) (tables : List ListedDefinition) (l : Listing) → after_all (Some (with_tables l tables)) (map CreateIndex defs) ≡ Some (with_tables l (indexed defs tables))
+indexed_all : (defs : List IndexDef) (tables : List ListedDefinition) (l : Listing) → after_all (Some (with_tables l tables)) (map index_edit defs) ≡ Some (with_tables l (indexed defs tables))
 indexed_all [] tables l = refl
 indexed_all (def ∷ defs) tables l = indexed_all defs (at_number 1 def.table (listed_with_index def) tables) l
 

@@ -1,15 +1,14 @@
 -- Edits after their tags.
-use Rattle.std.proofs.Common.{◌≡◌, ◌≤◌, ℕ, zero, suc, Bool, true, false, [], ◌∷◌, Option, None, Some, Result, length, take, refl, ap, ◌∙◌, arith, rules}
+use Rattle.std.proofs.Common.{◌≡◌, ◌≤◌, ℕ, zero, suc, Bool, true, false, [], ◌∷◌, None, Some, Result, length, take, refl, ap, ◌∙◌, arith, rules}
 use Rattle.std.specs.Int.{w8}
 use Rattle.sasi_types.specs.declared.column.ColumnType.{ColumnType}
-use Rattle.sasi_types.specs.declared.rule.Rule.{Rule}
 use Rattle.sasi_types.specs.declared.rule.Rule.TheVariants.{Whole, Words}
 use Rattle.sasi_model.specs.Indexes.{is_text}
 use Rattle.sasi_fields.specs.Reading.{Reading}
 use Rattle.sasi_host.specs.declared.damage.FormatRule.TheVariants as rule
 use Rattle.sasi_formats.specs.Codings.{own_tag}
 use Rattle.sasi_formats.specs.Formats.{Format}
-use Rattle.sasi_formats.specs.Fields.{◌&◌, fixed, flag, in_range, number}
+use Rattle.sasi_formats.specs.Fields.{◌&◌, flag, in_range, number}
 use Rattle.sasi_formats.specs.Gives.{FailsWith, Gives}
 use Rattle.sasi_formats.specs.Reader.{Corruption, Short, Long, Outcome, Got, Failed, ◌>>=◌, outcome_as, tried, read}
 use Rattle.sasi_formats.specs.declared.fault.FormatFault.{FormatFault}
@@ -21,7 +20,7 @@ use Rattle.sasi_formats.proofs.Tags.{tagged_gives}
 use Rattle.sasi_manifest.specs.declared.edit.Edit.{Edit}
 use Rattle.sasi_manifest.specs.declared.edit.Edit.TheVariants.{CreateIndex}
 use Rattle.sasi_manifest.specs.declared.listing.Listing.{Listing}
-use Rattle.sasi_manifest.specs.Edits.{analysis, by_tag, create, create_index, create_of, edit, folding, is_later_tag, is_rule_code, later_tag, new_index_def, rule_byte, rule_code, new_table, partitioner, replace, replace_of, replacement, start, start_of, tag_of}
+use Rattle.sasi_manifest.specs.Edits.{EditFields, RuleFields, analysis, by_tag, create, create_index, create_of, edit, folding, is_later_tag, is_rule_code, later_tag, new_index_def, rule_byte, rule_tag, new_table, partitioner, replace, replace_of, replacement, start, start_of, tag_of}
 use Rattle.sasi_manifest.specs.Abbreviations.{segments}
 use Rattle.std.specs.Prelude.{◌==◌, ◌||◌, nat_le}
 
@@ -87,7 +86,7 @@ create_gives listing n s t u result is got h =
 pub index_gives : (listing : Listing) (n : ℕ) (s t u : Reading) (result : Result Edit FormatFault) → n ≡ 3 → read later_tag s ≡ Got n t → Gives (read (create_index listing.tables) t) result u → Gives (read (edit (Some listing)) s) result u
 unfolding edit create_index
 index_gives listing n s t u result is got h =
-    tagged_gives later_tag tag_of (by_tag listing.tables listing.last) 3 s t (got ∙ ap (λ (m : ℕ). Got m t) is) CreateIndex (λ _. refl) (read (new_index_def listing.tables) t) refl result u h
+    tagged_gives later_tag tag_of (by_tag listing.tables listing.last) 3 s t (got ∙ ap (λ (m : ℕ). Got m t) is) (λ (f : EditFields). CreateIndex f.0 f.1) (λ _. refl) (read (new_index_def listing.tables) t) refl result u h
 
 -- files in the place of others after their tag
 pub replace_gives : (listing : Listing) (n : ℕ) (s t u : Reading) (result : Result Edit FormatFault) → (n == 2) ≡ false → (n == 3) ≡ false → read later_tag s ≡ Got n t → Gives (read (replace listing.tables) t) result u → Gives (read (edit (Some listing)) s) result u
@@ -98,7 +97,7 @@ replace_gives listing n s t u result other more got h =
 -- ---- how a column is indexed
 
 -- a rule after its byte
-pub rule_gives : (type : ColumnType) (n : ℕ) (s t u : Reading) (result : Result (Option Rule) FormatFault) → read (rule_byte type) s ≡ Got n t → Gives (read (folding n) t) result u → Gives (read (analysis type) s) result u
+pub rule_gives : (type : ColumnType) (n : ℕ) (s t u : Reading) (result : Result RuleFields FormatFault) → read (rule_byte type) s ≡ Got n t → Gives (read (folding n) t) result u → Gives (read (analysis type) s) result u
 rule_gives type n s t u result got h = by n (rule_codes (is_text type) n (rule_read type n s t got)) got h
   where
     rule_read : (type : ColumnType) (n : ℕ) (s t : Reading) → read (rule_byte type) s ≡ Got n t → is_rule_code (is_text type) n ≡ true
@@ -111,7 +110,7 @@ rule_gives type n s t u result got h = by n (rule_codes (is_text type) n (rule_r
     rule_codes false n is = (let none : n ≡ 0 = search (rules, is) in omega (arith, none))
 
     by : (n : ℕ) → n ≤ 2 → read (rule_byte type) s ≡ Got n t → Gives (read (folding n) t) result u → Gives (read (analysis type) s) result u
-    by zero few got h = tagged_gives (rule_byte type) rule_code folding 0 s t got (λ (_ : Unit {0}). None) (λ _. refl) (read (fixed rule.Number (0 ∷ [])) t) refl result u h
-    by (suc zero) few got h = tagged_gives (rule_byte type) rule_code folding 1 s t got (λ fold. Some (Whole fold)) (λ _. refl) (read flag t) refl result u h
-    by (suc (suc zero)) few got h = tagged_gives (rule_byte type) rule_code folding 2 s t got (λ fold. Some (Words fold)) (λ _. refl) (read flag t) refl result u h
+    by zero few got h = tagged_gives (rule_byte type) rule_tag folding 0 s t got (λ fold. (None, fold)) (λ _. refl) (read flag t) refl result u h
+    by (suc zero) few got h = tagged_gives (rule_byte type) rule_tag folding 1 s t got (λ fold. (Some (Whole fold), fold)) (λ _. refl) (read flag t) refl result u h
+    by (suc (suc zero)) few got h = tagged_gives (rule_byte type) rule_tag folding 2 s t got (λ fold. (Some (Words fold), fold)) (λ _. refl) (read flag t) refl result u h
     by (suc (suc (suc n))) few got h = absurd (omega (arith, few))

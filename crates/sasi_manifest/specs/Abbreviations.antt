@@ -1,11 +1,10 @@
 -- Short names for parts of the definitions, which contracts and proofs cite.
-use Rattle.std.specs.Prelude.{ℕ, ◌-◌, ◌^◌, nat_le, Bool, not, ◌&&◌, nat_lt, List, [], ◌∷◌, ◌++◌, length, map, Option, None, Some}
+use Rattle.std.specs.Prelude.{ℕ, ◌-◌, ◌^◌, nat_le, Bool, not, ◌&&◌, nat_lt, List, [], ◌∷◌, ◌++◌, length, map, None, Some}
 use Rattle.std.specs.List.{list_any, list_all}
 use Rattle.std.specs.Int.{w16, w32}
 use Rattle.sasi_types.specs.declared.index_def.IndexDef.{IndexDef}
 use Rattle.sasi_types.specs.declared.mode.Mode.{Mode}
 use Rattle.sasi_types.specs.declared.partitioner.Partitioner.{Partitioner}
-use Rattle.sasi_types.specs.declared.rule.Rule.{Rule}
 use Rattle.sasi_host.specs.Names.{Bytes}
 use Rattle.sasi_host.specs.declared.damage.FormatRule.TheVariants as rule
 use Rattle.sasi_model.specs.State.{Column}
@@ -18,7 +17,7 @@ use Rattle.sasi_manifest.specs.declared.listing.Listing.{Listing}
 use Rattle.sasi_manifest.specs.ListedDefinition.{ListedDefinition}
 use Rattle.sasi_manifest.specs.Format.{RecordsLeadTo}
 use Rattle.sasi_manifest.specs.Listings.{at_number, listed_definitions, listed_with_index}
-use Rattle.sasi_manifest.specs.Edits.{definition_at, index_names, name, named_index, type}
+use Rattle.sasi_manifest.specs.Edits.{RuleFields, definition_at, index_names, name, named_index, type}
 
 -- ---- listings
 
@@ -64,7 +63,7 @@ abbrev pub table_number : List ListedDefinition → Format ℕ
 table_number tables = in_range w32 1 (length (listed_definitions tables))
 
 -- it, and an index that is new on the table
-abbrev pub placed_index : List ListedDefinition → Format (ℕ × (Bytes × (ℕ × (Mode × Option Rule))))
+abbrev pub placed_index : List ListedDefinition → Format (ℕ × (Bytes × (ℕ × (Mode × RuleFields))))
 placed_index tables = Then (table_number tables) (λ table. named_index (index_names (listed_definitions tables)) (definition_at (listed_definitions tables) table))
 
 -- a name that no column before has, and a type

@@ -4,7 +4,6 @@ use Rattle.std.specs.Int.{w8, w16, w32}
 use Rattle.std.specs.List.{list_any, list_all, flat_map}
 use Rattle.std.specs.Option.{option_map_or}
 use Rattle.sasi_types.specs.Codes.{mode_code, type_code}
-use Rattle.sasi_types.specs.Rule.{folds}
 use Rattle.sasi_types.specs.declared.column.ColumnType.{ColumnType}
 use Rattle.sasi_types.specs.declared.column.ColumnType.TheVariants as types
 use Rattle.sasi_types.specs.declared.index_def.IndexDef.{IndexDef}
@@ -25,7 +24,7 @@ use Rattle.sasi_model.specs.Tokens.{is_word_byte}
 use Rattle.sasi_formats.specs.Formats.{Format, Sized, Then, Decoded, Counted, Fits, fit_items}
 use Rattle.sasi_formats.specs.Formats as formats
 use Rattle.sasi_formats.specs.Codings.{one_of, passing}
-use Rattle.sasi_formats.specs.Fields.{◌&◌, number, in_range, checked, mapped, tagged, select, fixed, flag}
+use Rattle.sasi_formats.specs.Fields.{◌&◌, number, in_range, checked, mapped, tagged, select, flag}
 use Rattle.sasi_manifest.specs.declared.edit.Edit.{Edit}
 use Rattle.sasi_manifest.specs.declared.edit.Edit.TheVariants.{Start, CreateTable, CreateIndex, Replace}
 use Rattle.sasi_manifest.specs.declared.files.ListedFile.{ListedFile}
@@ -141,38 +140,44 @@ is_rule_code false code = code == 0
 abbrev pub rule_byte : ColumnType → Format ℕ
 rule_byte type = checked rule.Number 1 (is_rule_code (is_text type)) (number w8)
 
--- whether a rule folds letters
-abbrev pub fold_of : Option Rule → Bool
-fold_of None = false
-fold_of (Some rule) = folds rule
+-- a rule, and what the byte behind its own says: whether letters are folded
+abbrev pub RuleFields : Type 0
+RuleFields = Option Rule × Bool
 
--- the byte that says so, after the one of the rule
-abbrev pub folding : ℕ → Format (Option Rule)
-folding zero = mapped (λ _. None) (λ _. tt) (λ _. refl) (fixed rule.Number (0 ∷ []))
-folding (suc zero) = mapped (λ fold. Some (Whole fold)) fold_of (λ _. refl) flag
-folding (suc (suc n)) = mapped (λ fold. Some (Words fold)) fold_of (λ _. refl) flag
+-- that byte, after the one of the rule; without a rule it means nothing, and may be either
+abbrev pub folding : ℕ → Format RuleFields
+folding zero = mapped (λ fold. (None, fold)) (λ f. f.1) (λ _. refl) flag
+folding (suc zero) = mapped (λ fold. (Some (Whole fold), fold)) (λ f. f.1) (λ _. refl) flag
+folding (suc (suc n)) = mapped (λ fold. (Some (Words fold), fold)) (λ f. f.1) (λ _. refl) flag
 
-abbrev pub analysis : ColumnType → Format (Option Rule)
-analysis type = tagged (rule_byte type) rule_code folding
+abbrev pub rule_tag : RuleFields → ℕ
+rule_tag f = rule_code f.0
+
+abbrev pub analysis : ColumnType → Format RuleFields
+analysis type = tagged (rule_byte type) rule_tag folding
 
 -- how a column of this type is indexed
-abbrev pub indexing : ColumnType → Format (Mode × Option Rule)
+abbrev pub indexing : ColumnType → Format (Mode × RuleFields)
 indexing type = mode type & analysis type
 
 -- a column of a table, and how it is indexed
-abbrev pub on_column : Definition → Format (ℕ × (Mode × Option Rule))
+abbrev pub on_column : Definition → Format (ℕ × (Mode × RuleFields))
 on_column d = Then (indexed_column d) (λ column. indexing (kind_of d column))
 
 -- a name that isn't one of these, and the column
-abbrev pub named_index : List Bytes → Definition → Format (Bytes × (ℕ × (Mode × Option Rule)))
+abbrev pub named_index : List Bytes → Definition → Format (Bytes × (ℕ × (Mode × RuleFields)))
 named_index names d = name names & on_column d
 
 abbrev pub IndexFields : Type 0
-IndexFields = ℕ × (ℕ × (Bytes × (ℕ × (Mode × Option Rule))))
+IndexFields = ℕ × (ℕ × (Bytes × (ℕ × (Mode × RuleFields))))
 
 -- the number of the index, that of one of the tables, and the rest
 abbrev pub index_format : List ℕ → List Bytes → List Definition → Format IndexFields
 index_format numbers names ds = index_number numbers & Then (in_range w32 1 (length ds)) (λ table. named_index names (definition_at ds table))
+
+-- the definition of an index, and the byte for letters as its edit keeps it
+abbrev pub EditFields : Type 0
+EditFields = IndexDef × Bool
 
 -- the type of the column isn't in the bytes
 abbrev pub index_def_of : List Definition → IndexFields → IndexDef
@@ -183,29 +188,29 @@ index_def_of ds f = record {
   column = f.1.1.1.0;
   kind = kind_of (definition_at ds f.1.0) f.1.1.1.0;
   mode = f.1.1.1.1.0;
-  rule = f.1.1.1.1.1;
+  rule = f.1.1.1.1.1.0;
 }
 
-abbrev pub index_fields : IndexDef → IndexFields
-index_fields def = (def.number, (def.table, (def.name, (def.column, (def.mode, def.rule)))))
+abbrev pub index_fields : EditFields → IndexFields
+index_fields (def, fold) = (def.number, (def.table, (def.name, (def.column, (def.mode, (def.rule, fold))))))
 
 -- The definition of an index of one of these tables, where these numbers and names are taken.
-abbrev pub index_def : List ℕ → List Bytes → List Definition → Format IndexDef
-index_def numbers names ds = mapped (index_def_of ds) index_fields (λ _. refl) (index_format numbers names ds)
+abbrev pub index_def : List ℕ → List Bytes → List Definition → Format EditFields
+index_def numbers names ds = mapped (λ f. (index_def_of ds f, f.1.1.1.1.1.1)) index_fields (λ _. refl) (index_format numbers names ds)
 
 abbrev pub no_def : IndexDef
 no_def = record { number = 0; table = 0; name = []; column = 0; kind = types.Text; mode = modes.Prefix; rule = None }
 
-abbrev pub def_of_edit : Edit → IndexDef
-def_of_edit (CreateIndex def) = def
-def_of_edit _ = no_def
+abbrev pub fields_of_edit : Edit → EditFields
+fields_of_edit (CreateIndex def fold) = (def, fold)
+fields_of_edit _ = (no_def, false)
 
 -- its number and its name are new over all tables
-abbrev pub new_index_def : List ListedDefinition → Format IndexDef
+abbrev pub new_index_def : List ListedDefinition → Format EditFields
 new_index_def tables = index_def (index_numbers tables) (index_names (listed_definitions tables)) (listed_definitions tables)
 
 unfoldable pub create_index : List ListedDefinition → Format Edit
-create_index tables = mapped CreateIndex def_of_edit (λ _. refl) (new_index_def tables)
+create_index tables = mapped (λ f. CreateIndex f.0 f.1) fields_of_edit (λ _. refl) (new_index_def tables)
 
 -- ---- files in the place of others
 
@@ -305,7 +310,7 @@ replace tables = mapped replace_of replace_fields (λ _. refl) (replacement tabl
 abbrev pub tag_of : Edit → ℕ
 tag_of (Start _ _ _) = 1
 tag_of (CreateTable _ _ _ _ _) = 2
-tag_of (CreateIndex _) = 3
+tag_of (CreateIndex _ _) = 3
 tag_of (Replace _ _ _ _ _ _) = 5
 
 -- the tags that a manifest has after its start

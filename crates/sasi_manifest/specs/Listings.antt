@@ -1,8 +1,10 @@
 -- The listing of a manifest, and the effect of edits on it.
-use Rattle.std.specs.Prelude.{ℕ, suc, ◌+◌, ◌<◌, ◌≤◌, ◌^◌, nat_le, max, List, [], ◌∷◌, ◌++◌, length, map, Option, Some, None, if◌then◌else◌}
+use Rattle.std.specs.Prelude.{ℕ, suc, ◌+◌, ◌<◌, ◌≤◌, ◌^◌, nat_le, max, Bool, false, List, [], ◌∷◌, ◌++◌, length, map, Option, Some, None, if◌then◌else◌}
 use Rattle.std.specs.List.{AllByRecursion, fold, zip}
 use Rattle.std.specs.Option.{option_map}
+use Rattle.sasi_types.specs.Rule.{folds}
 use Rattle.sasi_types.specs.declared.index_def.IndexDef.{IndexDef}
+use Rattle.sasi_types.specs.declared.rule.Rule.{Rule}
 use Rattle.sasi_host.specs.Names.{Bytes}
 use Rattle.sasi_model.specs.Abbreviations.{kind_of}
 use Rattle.sasi_model.specs.Cells.{largest}
@@ -39,7 +41,7 @@ pub record CanStart (floor last : ℕ) : Type 0 where
 abbrev pub FitsWidths : Edit → Type 0
 FitsWidths (Start partitioner floor last) = Unit {0}
 FitsWidths (CreateTable number name columns key since) = (length name ≤ 48) × (length columns ≤ 64) × AreNames (names_in columns)
-FitsWidths (CreateIndex def) = length def.name ≤ 48
+FitsWidths (CreateIndex def fold) = length def.name ≤ 48
 FitsWidths (Replace table removed added since floor last) = (length removed < 2 ^ 32) × (length added < 2 ^ 32) × AllByRecursion (λ f. length f.parts < 2 ^ 16) added
 
 -- the table with one index more
@@ -56,8 +58,8 @@ after from (Start partitioner floor last) = Some (record { partitioner = partiti
 after None (CreateTable number name columns key since) = None
 after (Some listing) (CreateTable number name columns key since) =
     Some (record listing { tables = listing.tables ++ record { definition = record { name = name; columns = columns; key = key; indexes = [] }; numbers = []; since = since; files = [] } ∷ [] })
-after None (CreateIndex def) = None
-after (Some listing) (CreateIndex def) = Some (record listing { tables = at_number 1 def.table (listed_with_index def) listing.tables })
+after None (CreateIndex def fold) = None
+after (Some listing) (CreateIndex def fold) = Some (record listing { tables = at_number 1 def.table (listed_with_index def) listing.tables })
 after None (Replace table removed added since floor last) = None
 after (Some listing) (Replace table removed added since floor last) =
     Some (record listing { floor = floor; last = last; tables = at_number 1 table (replaced removed added since) listing.tables })
@@ -123,8 +125,17 @@ by_number (def ∷ defs) = with_def def (by_number defs)
 abbrev pub index_defs : List ListedDefinition → List IndexDef
 index_defs tables = by_number (all_defs 1 tables)
 
+-- whether a rule folds letters
+abbrev pub fold_of : Option Rule → Bool
+fold_of None = false
+fold_of (Some rule) = folds rule
+
+-- the edit that is written for an index; where it has no rule, the byte for letters is 0
+abbrev pub index_edit : IndexDef → Edit
+index_edit def = CreateIndex def (fold_of def.rule)
+
 abbrev pub index_edits : List ListedDefinition → List Edit
-index_edits tables = map CreateIndex (index_defs tables)
+index_edits tables = map index_edit (index_defs tables)
 
 abbrev pub files_edit : ℕ → ℕ → ℕ → ℕ → List ListedFile → List Edit
 files_edit number since floor last [] = []

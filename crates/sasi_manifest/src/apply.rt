@@ -78,7 +78,7 @@ pub fn change(alloc: Global, listing: &mut Listing, edit: &Edit) -> Result<(), A
             let table = Table::new(*number, name, columns, *key, IndexList::new(alloc));
             add_table(listing, table, *since)
         }
-        Edit::CreateIndex { def } => add_index(listing, def.copy(alloc)?),
+        Edit::CreateIndex { def, .. } => add_index(listing, def.copy(alloc)?),
         Edit::Replace {
             table,
             removed,

@@ -5,7 +5,7 @@ ghost use Rattle.std.specs.List.{AllByRecursion};
 ghost use Rattle.sasi_types.specs.declared.column.ColumnType.TheVariants.{Text};
 ghost use Rattle.sasi_model.specs.Refusals.{names_in};
 ghost use Rattle.sasi_formats.specs.Formats.{encoded};
-ghost use Rattle.sasi_manifest.specs.Edits.{analysis, edit as edit_format, fold_of, index_def, rule_code, columns as columns_format, name as name_format, new_file_format, new_files, partitioner_code, parts as parts_format, removed_numbers};
+ghost use Rattle.sasi_manifest.specs.Edits.{analysis, edit as edit_format, index_def, rule_code, columns as columns_format, name as name_format, new_file_format, new_files, partitioner_code, parts as parts_format, removed_numbers};
 ghost use Rattle.sasi_manifest.specs.Abbreviations.{column as column_format};
 ghost use Rattle.sasi_manifest.specs.Naming.{AreNames};
 ghost use Rattle.sasi_manifest.specs.Listings.{FitsWidths};
@@ -47,9 +47,9 @@ pub fn put_edit(out: &mut Vec<u8>, edit: &Edit) -> Result<(), AllocError>
             put_u16(out, *key)?;
             put_u32(out, *since)
         }
-        Edit::CreateIndex { def } => {
+        Edit::CreateIndex { def, fold } => {
             put_u8(out, 3)?;
-            put_index(out, def)
+            put_index(out, def, *fold)
         }
         Edit::Replace {
             table,
@@ -69,24 +69,24 @@ pub fn put_edit(out: &mut Vec<u8>, edit: &Edit) -> Result<(), AllocError>
 }
 
 // Appends the numbers of an index and its table, its name, its column, and how that is indexed.
-fn put_index(out: &mut Vec<u8>, def: &IndexDef) -> Result<(), AllocError>
+fn put_index(out: &mut Vec<u8>, def: &IndexDef, fold: bool) -> Result<(), AllocError>
     requires { length def.now.name ≤ 48 }
-    ensures { OnOk result (out.new.items ≡ out.old.items ++ encoded (index_def [] [] []) def.now) }
+    ensures { OnOk result (out.new.items ≡ out.old.items ++ encoded (index_def [] [] []) (def.now, fold)) }
 {
     put_u32(out, def.number)?;
     put_u32(out, def.table)?;
     put_name(out, &def.name)?;
     put_u16(out, def.column)?;
     put_u8(out, def.mode.code())?;
-    put_rule(out, def.rule)
+    put_rule(out, def.rule, fold)
 }
 
-// Appends the byte of a rule, and whether it folds letters.
-fn put_rule(out: &mut Vec<u8>, rule: Option<Rule>) -> Result<(), AllocError>
-    ensures { OnOk result (out.new.items ≡ out.old.items ++ encoded (analysis Text) rule) }
+// Appends the byte of a rule, and whether letters are folded.
+fn put_rule(out: &mut Vec<u8>, rule: Option<Rule>, fold: bool) -> Result<(), AllocError>
+    ensures { OnOk result (out.new.items ≡ out.old.items ++ encoded (analysis Text) (rule, fold)) }
 {
     put_u8(out, rule_code(rule))?;
-    put_u8(out, fold_of(rule).into())
+    put_u8(out, fold.into())
 }
 
 // The byte of a rule.
@@ -97,16 +97,6 @@ fn rule_code(rule: Option<Rule>) -> u8
         None => 0,
         Some(Rule::Whole { .. }) => 1,
         Some(Rule::Words { .. }) => 2,
-    }
-}
-
-// Whether a rule folds letters.
-fn fold_of(rule: Option<Rule>) -> bool
-    ensures { result ≡ fold_of rule }
-{
-    match rule {
-        None => false,
-        Some(rule) => rule.folds(),
     }
 }
 

@@ -16,15 +16,18 @@ use crate::listed::ListedTables;
 use crate::text::read_index_name;
 use sasi_fields::FieldReader;
 use sasi_formats::{
-    FieldStart, FormatFault, expect, read_flag, read_u8, read_u16_in_range, read_u32_in_range,
+    FieldStart, FormatFault, read_flag, read_u8, read_u16_in_range, read_u32_in_range,
 };
 use sasi_host::FormatRule;
 use sasi_schema::Table;
 use sasi_types::{ColumnType, IndexDef, IndexNumber, Mode, Name, Rule, TableNumber};
 use std::alloc::Global;
 
+// A rule, and whether letters are folded, which means nothing without one.
+type RuleFields = (Option<Rule>, bool);
+
 // The column of an index, and how it is indexed.
-type OnColumn = (u16, (Mode, Option<Rule>));
+type OnColumn = (u16, (Mode, RuleFields));
 
 /// Reads the fields of a new index of a listed table.
 #[tactic(auto, unfolding(crate::specs::Edits::create_index))]
@@ -35,22 +38,22 @@ pub fn read_create_index(
 ) -> Result<Edit, FormatFault>
     ensures { Gives (read (create_index tables.now) reader.old) result reader.new }
 {
-    let def = read_def(alloc, reader, tables)?;
-    Ok(Edit::CreateIndex { def })
+    let (def, fold) = read_def(alloc, reader, tables)?;
+    Ok(Edit::CreateIndex { def, fold })
 }
 
-// Reads the definition of an index, whose number and name are new.
+// Reads the definition of an index, whose number and name are new, and whether letters are folded.
 fn read_def(
     alloc: Global,
     reader: &mut FieldReader,
     tables: &ListedTables,
-) -> Result<IndexDef, FormatFault>
+) -> Result<(IndexDef, bool), FormatFault>
     ensures { Gives (read (new_index_def tables.now) reader.old) result reader.new }
 {
     let number = read_number(reader, tables)?;
-    let (table, (name, (column, (mode, rule)))) = read_placed(alloc, reader, tables)?;
+    let (table, (name, (column, (mode, (rule, fold))))) = read_placed(alloc, reader, tables)?;
     let kind = type_at(tables.table(table), column);
-    Ok(IndexDef {
+    let def = IndexDef {
         number,
         table,
         name,
@@ -58,7 +61,8 @@ fn read_def(
         kind,
         mode,
         rule,
-    })
+    };
+    Ok((def, fold))
 }
 
 // Reads a number that no index has.
@@ -139,7 +143,7 @@ fn read_indexing_of(
     reader: &mut FieldReader,
     own: &Table,
     column: u16,
-) -> Result<(Mode, Option<Rule>), FormatFault>
+) -> Result<(Mode, RuleFields), FormatFault>
     ensures { Gives (read (indexing (kind_of (definition own.now) column)) reader.old) result reader.new }
 {
     read_indexing(reader, type_at(own, column))
@@ -169,7 +173,7 @@ fn is_open(own: &Table, column: u16) -> bool
 fn read_indexing(
     reader: &mut FieldReader,
     kind: ColumnType,
-) -> Result<(Mode, Option<Rule>), FormatFault>
+) -> Result<(Mode, RuleFields), FormatFault>
     ensures { Gives (read (indexing kind) reader.old) result reader.new }
 {
     let mode = read_mode(reader, kind)?;
@@ -214,7 +218,7 @@ fn mode_fits(mode: Mode, kind: ColumnType) -> bool
 }
 
 // Reads how terms are made of a value of this type.
-fn read_rule(reader: &mut FieldReader, kind: ColumnType) -> Result<Option<Rule>, FormatFault>
+fn read_rule(reader: &mut FieldReader, kind: ColumnType) -> Result<RuleFields, FormatFault>
     ensures { Gives (read (analysis kind) reader.old) result reader.new }
 {
     let code = read_rule_byte(reader, kind)?;
@@ -243,22 +247,22 @@ fn is_rule_code(kind: ColumnType, code: u8) -> bool
     }
 }
 
-// Reads whether a rule with this byte folds letters.
-fn read_folding(reader: &mut FieldReader, code: u8) -> Result<Option<Rule>, FormatFault>
+// Reads whether letters are folded, after the byte of a rule.
+fn read_folding(reader: &mut FieldReader, code: u8) -> Result<RuleFields, FormatFault>
     ensures { Gives (read (folding code) reader.old) result reader.new }
 {
     match code {
         0 => {
-            expect(reader, FormatRule::Number, &[0])?;
-            Ok(None)
+            let fold = read_flag(reader)?;
+            Ok((None, fold))
         }
         1 => {
             let fold = read_flag(reader)?;
-            Ok(Some(Rule::Whole { fold }))
+            Ok((Some(Rule::Whole { fold }), fold))
         }
         _ => {
             let fold = read_flag(reader)?;
-            Ok(Some(Rule::Words { fold }))
+            Ok((Some(Rule::Words { fold }), fold))
         }
     }
 }

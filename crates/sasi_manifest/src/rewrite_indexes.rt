@@ -1,9 +1,8 @@
 // The edits that create all indexes anew.
 ghost use Rattle.std.specs.Prelude.{◌≡◌, ◌++◌, map, IfOk, OnOk};
 ghost use Rattle.sasi_schema.specs.Numbers.{RisesFrom};
-ghost use Rattle.sasi_manifest.specs.declared.edit.Edit.TheVariants.{CreateIndex};
 ghost use Rattle.sasi_manifest.specs.ListedTables.{listed};
-ghost use Rattle.sasi_manifest.specs.Listings.{all_defs, by_number, index_edits};
+ghost use Rattle.sasi_manifest.specs.Listings.{all_defs, by_number, index_edit, index_edits};
 
 use crate::{Edit, ListedTable};
 use sasi_types::IndexDef;
@@ -51,10 +50,10 @@ fn sort_by_number(defs: &mut Vec<IndexDef>) -> Result<(), AllocError>
 }
 
 fn push_edits(edits: &mut Vec<Edit>, defs: Vec<IndexDef>) -> Result<(), AllocError>
-    ensures { OnOk result (edits.new.items ≡ edits.old.items ++ map CreateIndex defs.items) }
+    ensures { OnOk result (edits.new.items ≡ edits.old.items ++ map index_edit defs.items) }
 {
     for def in defs {
-        edits.push(Edit::CreateIndex { def })?;
+        edits.push(Edit::create_index(def))?;
     }
     Ok(())
 }

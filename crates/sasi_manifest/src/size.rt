@@ -27,7 +27,7 @@ fn edit_size(edit: &Edit) -> u64
     match edit {
         Edit::Start { .. } => 10,
         Edit::CreateTable { name, columns, .. } => create_size(name, columns),
-        Edit::CreateIndex { def } => index_size(&def.name),
+        Edit::CreateIndex { def, .. } => index_size(&def.name),
         Edit::Replace { removed, added, .. } => replace_size(removed, added),
     }
 }

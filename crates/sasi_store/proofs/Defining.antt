@@ -26,13 +26,12 @@ use Rattle.sasi_layout.specs.declared.number_kind.NumberKind.TheVariants as kind
 use Rattle.sasi_machine.proofs.DefinedIndexes.{times_indexed}
 use Rattle.sasi_manifest.proofs.Consistency.{record_consistent}
 use Rattle.sasi_manifest.specs.declared.edit.Edit.{Edit}
-use Rattle.sasi_manifest.specs.declared.edit.Edit.TheVariants.{CreateIndex}
 use Rattle.sasi_manifest.specs.declared.listing.Listing.{Listing}
 use Rattle.sasi_manifest.specs.Edits.{encoded}
 use Rattle.sasi_manifest.specs.Format.{IsNext}
 use Rattle.sasi_manifest.specs.ListedDefinition.{ListedDefinition}
 use Rattle.sasi_manifest.specs.ListedFiles.{has_file}
-use Rattle.sasi_manifest.specs.Listings.{at_number, listed_definitions, listed_with_index}
+use Rattle.sasi_manifest.specs.Listings.{at_number, index_edit, listed_definitions, listed_with_index}
 use Rattle.sasi_manifest.specs.OpenManifest.{IsEither, ManifestState, ManifestStands}
 use Rattle.sasi_model.specs.Abbreviations.{kind_of}
 use Rattle.sasi_model.specs.Changes.{state_with_index}
@@ -53,7 +52,7 @@ use Rattle.sasi_store.proofs.TablesInMemory.{all_push}
 
 -- the edit that lists the index
 abbrev pub edits_for : ℕ → NewIndex → List Edit
-edits_for number new = CreateIndex (numbered_def number new) ∷ []
+edits_for number new = index_edit (numbered_def number new) ∷ []
 
 -- the store after it, whose manifest goes on from there
 abbrev pub memory_after_define : NewIndex → ManifestState → StoreInMemory → StoreInMemory
@@ -122,8 +121,8 @@ module _ (a b : View) (sound : IsSound a) (store : StoreInMemory) (new : NewInde
       let found = table_in l serves in
       let number_is : next_number ≡ suc l.used.index = ap (λ (u : Used). suc u.index) serves.used in
       let kind_is : new.kind ≡ kind_of found.0.definition new.column = definable.kind ∙ ap (λ (d : Definition). kind_of d new.column) (sym found.2) in
-      let named : edits ≡ CreateIndex (record (numbered_def (suc l.used.index) new) { kind = kind_of found.0.definition new.column }) ∷ [] = λ i. CreateIndex (record (numbered_def (number_is i) new) { kind = kind_is i }) ∷ [] in
-      named ∙ ap (λ (o : Option TableParts). option_map_or (λ (t : TableParts). CreateIndex (record (numbered_def (suc l.used.index) new) { kind = kind_of t.definition new.column }) ∷ []) o []) (sym found.1)
+      let named : edits ≡ index_edit (record (numbered_def (suc l.used.index) new) { kind = kind_of found.0.definition new.column }) ∷ [] = λ i. index_edit (record (numbered_def (number_is i) new) { kind = kind_is i }) ∷ [] in
+      named ∙ ap (λ (o : Option TableParts). option_map_or (λ (t : TableParts). index_edit (record (numbered_def (suc l.used.index) new) { kind = kind_of t.definition new.column }) ∷ []) o []) (sym found.1)
 
   next_is : (l : Layout) → Serves a store l → IsNext listing edits (listing_of (after_define new.table index l))
   next_is l serves =

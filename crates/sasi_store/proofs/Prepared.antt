@@ -27,6 +27,7 @@ use Rattle.sasi_manifest.specs.Edits.{Applies}
 use Rattle.sasi_manifest.specs.declared.edit.Edit.TheVariants as edits
 use Rattle.sasi_manifest.specs.declared.listing.Listing.{Listing}
 use Rattle.sasi_manifest.specs.ListedDefinition.{ListedDefinition}
+use Rattle.sasi_manifest.specs.Listings.{index_edit}
 use Rattle.sasi_model.specs.Abbreviations.{definitions, kind_of, max_timestamp_of_tables}
 use Rattle.sasi_model.specs.Asked as ask
 use Rattle.sasi_model.specs.Asked.{asks, parsed_asks, statement_asks}
@@ -108,7 +109,7 @@ module _ (v : View) (p : Parts) (ready : CanChange v (memory_of p)) where
   pub new_unindexed : (t : Table) (piece : Piece) (reply : List ℕ) → Prepares blank piece reply (Create t) → (definition t).indexes ≡ []
   new_unindexed t piece reply prepared = created_unindexed t prepared.1.0 prepared.1.3
 
-  define_applies : (new : NewIndex) (statement : Statement) → new.table < 2 ^ 32 → new.column < 2 ^ 16 → IsWellFormed statement → DefinesIndex blank statement new → (number : ℕ) → p.numbers.index < number → number < 2 ^ 32 → Applies (Some listing) (edits.CreateIndex (numbered_def number new))
+  define_applies : (new : NewIndex) (statement : Statement) → new.table < 2 ^ 32 → new.column < 2 ^ 16 → IsWellFormed statement → DefinesIndex blank statement new → (number : ℕ) → p.numbers.index < number → number < 2 ^ 32 → Applies (Some listing) (index_edit (numbered_def number new))
   define_applies new (CreateIndex name table column class options stepped) table_small column_small in_order defines number above fits =
       can_define listing blank name table column class options stepped new number (blank_definitions ∙ ready.definitions) in_order defines.0 defines.1 table_small column_small (omega (arith, above)) fits
       (numbers_above p.numbers.index number listing.tables (numbers_within p.numbers.index listing.tables ready.numbered.indexes) above)

@@ -3,7 +3,8 @@ use Rattle.std.specs.Prelude.{◌≡◌, ℕ, ◌+◌, ◌-◌, ◌<◌, ◌^◌
 use Rattle.sasi_cells.specs.declared.mutation.Mutation.{Mutation}
 use Rattle.sasi_layout.specs.Serving.{StoreInMemory}
 use Rattle.sasi_manifest.specs.Edits.{Applies}
-use Rattle.sasi_manifest.specs.declared.edit.Edit.TheVariants.{CreateIndex, CreateTable}
+use Rattle.sasi_manifest.specs.declared.edit.Edit.TheVariants.{CreateTable}
+use Rattle.sasi_manifest.specs.Listings.{index_edit}
 use Rattle.sasi_model.specs.Abbreviations.{kind_of, types_of}
 use Rattle.sasi_model.specs.State.{Definition, definition_of}
 use Rattle.sasi_model.specs.Stored.{IsBodyOf}
@@ -35,4 +36,4 @@ pub record IsDefinable (store : StoreInMemory) (new : NewIndex) : Type 0 where
   pub there : slice_get store.definitions (new.table - 1) ≡ Some definition
   pub kind : new.kind ≡ kind_of definition new.column
   pub fits : (number : ℕ) → IsIndexIn store.definitions (numbered_def number new)
-  pub applies : (number : ℕ) → store.used.index < number → number < 2 ^ 32 → Applies (Some store.manifest.listing) (CreateIndex (numbered_def number new))
+  pub applies : (number : ℕ) → store.used.index < number → number < 2 ^ 32 → Applies (Some store.manifest.listing) (index_edit (numbered_def number new))

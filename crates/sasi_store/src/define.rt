@@ -3,7 +3,7 @@ ghost use Rattle.std.specs.Prelude.{◌≡◌, ◌∷◌, [], IfErr, IfOk, OnOk,
 ghost use Rattle.sasi_layout.specs.Classes.{HasNeeded, LacksNeeded};
 ghost use Rattle.sasi_layout.specs.Serving.{CanChange};
 ghost use Rattle.sasi_layout.specs.Statements.{moves_asked};
-ghost use Rattle.sasi_manifest.specs.declared.edit.Edit.{Edit as AnEdit};
+ghost use Rattle.sasi_manifest.specs.Listings.{index_edit};
 ghost use Rattle.sasi_model.specs.Asked.{Defines, class_needed};
 ghost use Rattle.sasi_model.specs.Changes.{at_number};
 ghost use Rattle.sasi_model.specs.State.{with_index};
@@ -76,11 +76,9 @@ fn next_index(last: IndexNumber) -> Result<IndexNumber, NumberKind>
 
 // The edit that lists an index.
 fn define_edits(alloc: Global, def: &IndexDef) -> Result<EditList, AllocError>
-    ensures { IfOk result (λ edits. edits ≡ AnEdit.CreateIndex def.now ∷ []) }
+    ensures { IfOk result (λ edits. edits ≡ index_edit def.now ∷ []) }
 {
     let mut edits = EditList::new(alloc);
-    edits.push(Edit::CreateIndex {
-        def: def.copy(alloc)?,
-    })?;
+    edits.push(Edit::create_index(def.copy(alloc)?))?;
     Ok(edits)
 }

@@ -41,7 +41,7 @@ add_table-requires-clause-free c =
 
 pub add_index-requires : goal.add_index-requires
 add_index-requires c =
-    let can = applies_index _ _ (rw c.in-CreateIndex.is at c.requires) in
+    let can = applies_index _ _ _ (rw c.in-CreateIndex.is at c.requires) in
     subst (λ (d : IndexDef). IsIndexIn (listed_definitions c.args.listing.now.tables) d) (sym c.in_ok-copy-in-CreateIndex.ensures) (index_in _ _ can)
 
 pub replace_files-requires-clause-some : goal.replace_files-requires-clause-some

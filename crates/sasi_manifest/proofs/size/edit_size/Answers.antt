@@ -9,7 +9,7 @@ returns-in-CreateTable c =
 
 pub returns-in-CreateIndex : goal.returns-in-CreateIndex
 returns-in-CreateIndex c =
-    c.index_size.ensures ∙ ap (λ n. min n (2 ^ 64 - 1)) (sym (index_length _)) ∙ ap (λ (e : Edit). min (length (edit_bytes e)) (2 ^ 64 - 1)) (sym c.in-CreateIndex.is)
+    c.index_size.ensures ∙ ap (λ n. min n (2 ^ 64 - 1)) (sym (index_length _ _)) ∙ ap (λ (e : Edit). min (length (edit_bytes e)) (2 ^ 64 - 1)) (sym c.in-CreateIndex.is)
 
 pub returns-in-Replace : goal.returns-in-Replace
 returns-in-Replace c =

@@ -8,12 +8,12 @@ use Rattle.sasi_manifest.proofs.EditBytes.{index_short}
 use Rattle.sasi_manifest.specs.Edits.{AllApply, encoded}
 use Rattle.sasi_manifest.specs.Format.{IsNext}
 use Rattle.sasi_manifest.specs.declared.edit.Edit.{Edit}
-use Rattle.sasi_manifest.specs.declared.edit.Edit.TheVariants.{CreateIndex}
 use Rattle.sasi_schema.specs.IndexFacts.{IsIndexIn}
 use Rattle.sasi_schema.specs.SchemaViews.{SchemaView, index_of_new, numbered_def, with_index_def}
 use Rattle.sasi_types.specs.declared.index_def.IndexDef.{IndexDef}
 use Rattle.sasi_types.specs.declared.partitioner.Partitioner.{Partitioner}
 use Rattle.sasi_manifest.specs.ListedDefinition.{ListedDefinition}
+use Rattle.sasi_manifest.specs.Listings.{index_edit}
 use Rattle.sasi_memindex.specs.Book.{CanAdd, IsAdded}
 use Rattle.sasi_recover.specs.OpenedFolder.{opened_table}
 use Rattle.sasi_store.specs.Held.{AreMapped, HasRegularIndexes, KnowsDef, subjects_of}
@@ -42,7 +42,7 @@ pub append-requires-clause-apply : goal.append-requires-clause-apply
 append-requires-clause-apply g c =
     let next = c.in_ok-number.ensures.next in
     let def_is : c.numbered-def.result ≡ numbered_def (suc c.args.parts.now.numbers.index) c.args.index = c.numbered-def.ensures ∙ ap (λ (n : ℕ). numbered_def n c.args.index) next.next_is in
-    let edits : c.in_ok-edits.edits ≡ edits_for (suc c.args.parts.now.numbers.index) c.args.index = c.in_ok-edits.ensures ∙ ap (λ (d : IndexDef). CreateIndex d ∷ []) def_is in
+    let edits : c.in_ok-edits.edits ≡ edits_for (suc c.args.parts.now.numbers.index) c.args.index = c.in_ok-edits.ensures ∙ ap (λ (d : IndexDef). index_edit d ∷ []) def_is in
     let fits : suc c.args.parts.now.numbers.index < 2 ^ 32 = subst (λ (n : ℕ). n < 2 ^ 32) next.next_is next.fits in
     subst (AllApply (Some c.args.parts.now.manifest.listing)) (sym edits) (c.requires.definable.applies (suc c.args.parts.now.numbers.index) (omega arith) fits, tt)
 
@@ -50,7 +50,7 @@ pub append-requires-clause-some : goal.append-requires-clause-some
 append-requires-clause-some g c =
     let next = c.in_ok-number.ensures.next in
     let def_is : c.numbered-def.result ≡ numbered_def (suc c.args.parts.now.numbers.index) c.args.index = c.numbered-def.ensures ∙ ap (λ (n : ℕ). numbered_def n c.args.index) next.next_is in
-    let edits : c.in_ok-edits.edits ≡ edits_for (suc c.args.parts.now.numbers.index) c.args.index = c.in_ok-edits.ensures ∙ ap (λ (d : IndexDef). CreateIndex d ∷ []) def_is in
+    let edits : c.in_ok-edits.edits ≡ edits_for (suc c.args.parts.now.numbers.index) c.args.index = c.in_ok-edits.ensures ∙ ap (λ (d : IndexDef). index_edit d ∷ []) def_is in
     let fits : suc c.args.parts.now.numbers.index < 2 ^ 32 = subst (λ (n : ℕ). n < 2 ^ 32) next.next_is next.fits in
     subst (λ (es : List Edit). 1 ≤ length es) (sym edits) (omega arith)
 
@@ -58,9 +58,9 @@ pub append-requires-clause-short : goal.append-requires-clause-short
 append-requires-clause-short g c =
     let next = c.in_ok-number.ensures.next in
     let def_is : c.numbered-def.result ≡ numbered_def (suc c.args.parts.now.numbers.index) c.args.index = c.numbered-def.ensures ∙ ap (λ (n : ℕ). numbered_def n c.args.index) next.next_is in
-    let edits : c.in_ok-edits.edits ≡ edits_for (suc c.args.parts.now.numbers.index) c.args.index = c.in_ok-edits.ensures ∙ ap (λ (d : IndexDef). CreateIndex d ∷ []) def_is in
+    let edits : c.in_ok-edits.edits ≡ edits_for (suc c.args.parts.now.numbers.index) c.args.index = c.in_ok-edits.ensures ∙ ap (λ (d : IndexDef). index_edit d ∷ []) def_is in
     let fits : suc c.args.parts.now.numbers.index < 2 ^ 32 = subst (λ (n : ℕ). n < 2 ^ 32) next.next_is next.fits in
-    let short = index_short c.args.parts.now.manifest.listing (numbered_def (suc c.args.parts.now.numbers.index) c.args.index) (c.requires.definable.applies (suc c.args.parts.now.numbers.index) (omega arith) fits) in
+    let short = index_short c.args.parts.now.manifest.listing (numbered_def (suc c.args.parts.now.numbers.index) c.args.index) _ (c.requires.definable.applies (suc c.args.parts.now.numbers.index) (omega arith) fits) in
     subst (λ (es : List Edit). length (encoded es) ≤ 2 ^ 30) (sym edits) (omega (arith, short))
 
 pub restore_index-requires : goal.restore_index-requires
@@ -73,7 +73,7 @@ returns-in_err-append-clause-makes g c =
     let b = g.H.Host.view c.append.new.host in
     let next = c.in_ok-number.ensures.next in
     let def_is : c.numbered-def.result ≡ numbered_def (suc c.args.parts.now.numbers.index) c.args.index = c.numbered-def.ensures ∙ ap (λ (n : ℕ). numbered_def n c.args.index) next.next_is in
-    let edits : c.in_ok-edits.edits ≡ edits_for (suc c.args.parts.now.numbers.index) c.args.index = c.in_ok-edits.ensures ∙ ap (λ (d : IndexDef). CreateIndex d ∷ []) def_is in
+    let edits : c.in_ok-edits.edits ≡ edits_for (suc c.args.parts.now.numbers.index) c.args.index = c.in_ok-edits.ensures ∙ ap (λ (d : IndexDef). index_edit d ∷ []) def_is in
     let fits : suc c.args.parts.now.numbers.index < 2 ^ 32 = subst (λ (n : ℕ). n < 2 ^ 32) next.next_is next.fits in
     rw (p.1, p.2) (define_stopped a b (g.met.H.Host.sound c.args.host.now) (memory_of c.args.parts.now) c.args.index c.requires.ready c.requires.definable fits _ (fault_of_call c.in_err-append.field-0.0)
     (λ made is. c.append.ensures.any_moment made (subst (λ (es : List Edit). IsNext c.args.parts.now.manifest.listing es made) (sym edits) is)) c.append.ensures.changes c.in_err-append.ensures.causes.reads (call_plain c.in_err-append.field-0.0)
@@ -113,7 +113,7 @@ returns-in_err-add_index-clause-makes g c =
     let b = g.H.Host.view c.append.new.host in
     let next = c.in_ok-number.ensures.next in
     let def_is : c.numbered-def.result ≡ numbered_def (suc c.args.parts.now.numbers.index) c.args.index = c.numbered-def.ensures ∙ ap (λ (n : ℕ). numbered_def n c.args.index) next.next_is in
-    let edits : c.in_ok-edits.edits ≡ edits_for (suc c.args.parts.now.numbers.index) c.args.index = c.in_ok-edits.ensures ∙ ap (λ (d : IndexDef). CreateIndex d ∷ []) def_is in
+    let edits : c.in_ok-edits.edits ≡ edits_for (suc c.args.parts.now.numbers.index) c.args.index = c.in_ok-edits.ensures ∙ ap (λ (d : IndexDef). index_edit d ∷ []) def_is in
     let fits : suc c.args.parts.now.numbers.index < 2 ^ 32 = subst (λ (n : ℕ). n < 2 ^ 32) next.next_is next.fits in
     rw (p.1, p.2) (define_stopped a b (g.met.H.Host.sound c.args.host.now) (memory_of c.args.parts.now) c.args.index c.requires.ready c.requires.definable fits _ OutOfMemory
     (λ made is. c.append.ensures.any_moment made (subst (λ (es : List Edit). IsNext c.args.parts.now.manifest.listing es made) (sym edits) is)) c.append.ensures.changes c.in_ok-append.ensures.causes.reads tt
@@ -126,7 +126,7 @@ returns-in_err-restore_index-clause-makes g c =
     let b = g.H.Host.view c.append.new.host in
     let next = c.in_ok-number.ensures.next in
     let def_is : c.numbered-def.result ≡ numbered_def (suc c.args.parts.now.numbers.index) c.args.index = c.numbered-def.ensures ∙ ap (λ (n : ℕ). numbered_def n c.args.index) next.next_is in
-    let edits : c.in_ok-edits.edits ≡ edits_for (suc c.args.parts.now.numbers.index) c.args.index = c.in_ok-edits.ensures ∙ ap (λ (d : IndexDef). CreateIndex d ∷ []) def_is in
+    let edits : c.in_ok-edits.edits ≡ edits_for (suc c.args.parts.now.numbers.index) c.args.index = c.in_ok-edits.ensures ∙ ap (λ (d : IndexDef). index_edit d ∷ []) def_is in
     let fits : suc c.args.parts.now.numbers.index < 2 ^ 32 = subst (λ (n : ℕ). n < 2 ^ 32) next.next_is next.fits in
     rw (p.1, p.2) (define_stopped a b (g.met.H.Host.sound c.args.host.now) (memory_of c.args.parts.now) c.args.index c.requires.ready c.requires.definable fits _ OutOfMemory
     (λ made is. c.append.ensures.any_moment made (subst (λ (es : List Edit). IsNext c.args.parts.now.manifest.listing es made) (sym edits) is)) c.append.ensures.changes c.in_ok-append.ensures.causes.reads tt
@@ -139,7 +139,7 @@ returns-clause-makes g c =
     let e = c.in_ok-append.ensures in
     let next = c.in_ok-number.ensures.next in
     let def_is : c.numbered-def.result ≡ numbered_def (suc c.args.parts.now.numbers.index) c.args.index = c.numbered-def.ensures ∙ ap (λ (n : ℕ). numbered_def n c.args.index) next.next_is in
-    let edits : c.in_ok-edits.edits ≡ edits_for (suc c.args.parts.now.numbers.index) c.args.index = c.in_ok-edits.ensures ∙ ap (λ (d : IndexDef). CreateIndex d ∷ []) def_is in
+    let edits : c.in_ok-edits.edits ≡ edits_for (suc c.args.parts.now.numbers.index) c.args.index = c.in_ok-edits.ensures ∙ ap (λ (d : IndexDef). index_edit d ∷ []) def_is in
     let fits : suc c.args.parts.now.numbers.index < 2 ^ 32 = subst (λ (n : ℕ). n < 2 ^ 32) next.next_is next.fits in
     let listed : IsNext c.args.parts.now.manifest.listing (edits_for (suc c.args.parts.now.numbers.index) c.args.index) c.append.new.self.listing = subst (λ (es : List Edit). IsNext c.args.parts.now.manifest.listing es c.append.new.self.listing) edits e.listing in
     let defined = ap (λ (v : SchemaView). v.definitions) (c.in_ok-restore_index.ensures.ok ∙ ap (λ (d : IndexDef). with_index_def d c.args.parts.now.schema) def_is) in
@@ -165,7 +165,7 @@ returns-clause-parts g c =
     let b = g.H.Host.view c.append.new.host in
     let next = c.in_ok-number.ensures.next in
     let def_is : c.numbered-def.result ≡ numbered_def (suc c.args.parts.now.numbers.index) c.args.index = c.numbered-def.ensures ∙ ap (λ (n : ℕ). numbered_def n c.args.index) next.next_is in
-    let edits : c.in_ok-edits.edits ≡ edits_for (suc c.args.parts.now.numbers.index) c.args.index = c.in_ok-edits.ensures ∙ ap (λ (d : IndexDef). CreateIndex d ∷ []) def_is in
+    let edits : c.in_ok-edits.edits ≡ edits_for (suc c.args.parts.now.numbers.index) c.args.index = c.in_ok-edits.ensures ∙ ap (λ (d : IndexDef). index_edit d ∷ []) def_is in
     let fits : suc c.args.parts.now.numbers.index < 2 ^ 32 = subst (λ (n : ℕ). n < 2 ^ 32) next.next_is next.fits in
     let listed : IsNext c.args.parts.now.manifest.listing (edits_for (suc c.args.parts.now.numbers.index) c.args.index) c.append.new.self.listing = subst (λ (es : List Edit). IsNext c.args.parts.now.manifest.listing es c.append.new.self.listing) edits c.in_ok-append.ensures.listing in
     let same = (listed_after a b (g.met.H.Host.sound c.args.host.now) (memory_of c.args.parts.now) c.args.index c.requires.ready c.requires.definable fits c.append.new.self.listing listed).0 in
@@ -190,6 +190,6 @@ pub returns-clause-knows : goal.returns-clause-knows
 returns-clause-knows g c =
     let next = c.in_ok-number.ensures.next in
     let def_is : c.numbered-def.result ≡ numbered_def (suc c.args.parts.now.numbers.index) c.args.index = c.numbered-def.ensures ∙ ap (λ (n : ℕ). numbered_def n c.args.index) next.next_is in
-    let edits : c.in_ok-edits.edits ≡ edits_for (suc c.args.parts.now.numbers.index) c.args.index = c.in_ok-edits.ensures ∙ ap (λ (d : IndexDef). CreateIndex d ∷ []) def_is in
+    let edits : c.in_ok-edits.edits ≡ edits_for (suc c.args.parts.now.numbers.index) c.args.index = c.in_ok-edits.ensures ∙ ap (λ (d : IndexDef). index_edit d ∷ []) def_is in
     let fits : suc c.args.parts.now.numbers.index < 2 ^ 32 = subst (λ (n : ℕ). n < 2 ^ 32) next.next_is next.fits in
     record { definitions_are = ap (λ (v : SchemaView). v.definitions) (c.in_ok-restore_index.ensures.ok ∙ ap (λ (d : IndexDef). with_index_def d c.args.parts.now.schema) def_is); timestamp_is = refl }
