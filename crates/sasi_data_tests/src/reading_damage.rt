@@ -44,7 +44,7 @@ fn cut_file_is_damaged(rt: HostRuntime) {
 
 // Where the last bit of a byte from the first of these offsets up to the second is turned: the offsets between which the
 // damage is seen, and its rule.
-const DAMAGES: [(usize, usize, usize, usize, FormatRule); 27] = [
+const DAMAGES: [(usize, usize, usize, usize, FormatRule); 26] = [
     (0, 8, 0, 8, FormatRule::Magic),
     (8, 12, 8, 12, FormatRule::Version),
     (12, 16, 12, 16, FormatRule::Number),
@@ -67,10 +67,9 @@ const DAMAGES: [(usize, usize, usize, usize, FormatRule); 27] = [
     (77, 84, 77, 85, FormatRule::Place),
     (84, 85, 17, 21, FormatRule::Number),
     (85, 93, 85, 93, FormatRule::Place),
-    (93, 100, 0, 0, FormatRule::Short),
-    (100, 101, 93, 101, FormatRule::Number),
+    (93, 101, 93, 101, FormatRule::Number),
     (109, 116, 109, 117, FormatRule::Place),
-    (116, 117, 16, 20, FormatRule::Number),
+    (116, 117, 93, 101, FormatRule::Number),
     (117, 125, 117, 125, FormatRule::Magic),
 ];
 

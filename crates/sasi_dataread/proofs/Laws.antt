@@ -21,7 +21,7 @@ use Rattle.sasi_datawrite.specs.declared.footer.Footer.{Footer}
 use Rattle.sasi_datawrite.specs.Format.{Content, IsContent, header, footer, footer_bytes, front, trailer, content_max_timestamp, key_pairs, partition_bytes, partitions, data_bytes}
 use Rattle.sasi_datawrite.specs.Files.{IsDataFile}
 use Rattle.sasi_datawrite.proofs.Laws.{header_length, partition_length, pairs_length}
-use Rattle.sasi_datawrite.proofs.Footers.{footer_fits}
+use Rattle.sasi_datawrite.proofs.Footers.{footer_fits, room_filled}
 use Rattle.sasi_dataread.specs.Opened.{StandsAt}
 use Rattle.sasi_dataread.specs.Bodies.{length_prefixed}
 
@@ -184,5 +184,6 @@ in_range partitioner types bytes content is short =
     let place = tree_offset partitioner content is.content_is in
     let whole = whole_length partitioner types bytes content is in
     footer_fits (length bytes - 40) (footer_of partitioner content) (omega (arith, place.within, whole, short)) (omega (arith, count, some)) (omega (arith, count, first, end, short))
-    (omega (arith, greatest_fits content is.content_is.bodies)) (omega (arith, end, short)) (omega (arith, first, some)) end
+    (omega (arith, greatest_fits content is.content_is.bodies)) (omega (arith, end, short)) (omega (arith, first, some)) (omega (arith, whole, tree_least partitioner content is.content_is))
+    (room_filled (length bytes - 40) (length (front content)) (key_pairs partitioner content) (omega (arith, count, some)) (omega (arith, short)) (omega (arith, whole)))
     (is_root_offset (length (front content)) (length bytes - 40) (key_pairs partitioner content) (omega (arith, count, some)) (omega (arith, whole)))

@@ -1,5 +1,5 @@
 -- The bytes of a data file: a header, the partitions, the key tree and a footer.
-use Rattle.std.specs.Prelude.{ℕ, ◌+◌, ◌-◌, ◌^◌, ◌≤◌, nat_le, ◌&&◌, max, List, [], ◌∷◌, ◌++◌, length, map, refl}
+use Rattle.std.specs.Prelude.{ℕ, ◌+◌, ◌-◌, ◌^◌, ◌≤◌, ◌==◌, nat_le, Bool, true, ◌&&◌, if◌then◌else◌, max, List, [], ◌∷◌, ◌++◌, length, map, refl}
 use Rattle.std.specs.Int.{to_be_bytes, w32, w64}
 use Rattle.std.specs.List.{flat_map, AllByRecursion}
 use Rattle.std.specs.List.Sorted.{IsStrictlySortedBy}
@@ -11,12 +11,13 @@ use Rattle.sasi_types.specs.Token.{token_of}
 use Rattle.sasi_model.specs.Cells.{Partition, max_timestamp_of}
 use Rattle.sasi_host.specs.Names.{Bytes}
 use Rattle.sasi_host.specs.declared.damage.FormatRule.TheVariants as rule
-use Rattle.sasi_formats.specs.Formats.{Format, encoded}
+use Rattle.sasi_formats.specs.Formats.{Format, Then, encoded}
 use Rattle.sasi_formats.specs.Fields.{◌&◌, checked, mapped, number, in_range, fixed}
 use Rattle.sasi_formats.specs.Headers.{file_header}
 use Rattle.sasi_body.specs.Body.{body, HasBody}
 use Rattle.sasi_tokentree.specs.Format.{tree_bytes, tree_ref}
 use Rattle.sasi_tokentree.specs.Damages.{is_node_offset}
+use Rattle.sasi_tokentree.specs.Heights.{bytes_below_root, levels_size}
 use Rattle.sasi_datawrite.specs.declared.footer.Footer.{Footer}
 
 -- ---- what a file holds
@@ -71,15 +72,27 @@ pairs_from partitioner at (one ∷ others) = record { token = token_of partition
 abbrev pub key_pairs : Partitioner → Content → List Pair
 key_pairs partitioner content = pairs_from partitioner (length header) content
 
--- where the partitions end, before a footer at this offset: behind the smallest one
+-- where the partitions end, before a footer at this offset: behind the smallest one, and where a node of the key tree can stand
 abbrev pub end_before : ℕ → Format ℕ
-end_before at = checked rule.Place 8 (λ end. nat_le 33 end && nat_le end at) (number w64)
+end_before at = checked rule.Place 8 (is_node_offset 33 at) (number w64)
 
--- the root of the key tree, the number of partitions, the largest timestamp, and where the partitions end
+-- whether the key tree with this root and so many pairs fills the room from the partitions' end to a footer at this offset; no file has room for more than 2^58
+abbrev pub fills_room : ℕ → ℕ → ℕ → ℕ → Bool
+fills_room at root end pairs = nat_le pairs (2 ^ 58) && (end + bytes_below_root pairs pairs == root && end + levels_size pairs pairs == at)
+
+-- whether there can be so many pairs; of a root that can't stand in that room nothing is asked, since the root is wrong then
+abbrev pub is_count : ℕ → ℕ → ℕ → ℕ → Bool
+is_count at root end pairs = if is_node_offset end at root then fills_room at root end pairs else true
+
+-- the number of partitions, each of which has a pair in the key tree, the largest timestamp, and where the partitions end, behind this root
+abbrev pub counted_fields : ℕ → ℕ → Format (ℕ × (ℕ × ℕ))
+counted_fields at root = checked rule.Number 8 (λ n. is_count at root n.1.1 n.0) (in_range w64 1 (2 ^ 64 - 1) & number w64 & end_before at)
+
+-- the root of the key tree, and these
 abbrev pub footer_fields : ℕ → Format Footer
 footer_fields at =
     mapped (λ n. record { tree = record { root = n.0; pairs = n.1.0 }; max_timestamp = n.1.1.0; end = n.1.1.1 }) (λ f. (f.tree.root, (f.tree.pairs, (f.max_timestamp, f.end)))) (λ _. refl)
-    (number w64 & in_range w64 1 (2 ^ 64 - 1) & number w64 & end_before at)
+    (Then (number w64) (counted_fields at))
 
 -- the numbers of a footer at this offset; the root stands between where the partitions end and the footer
 abbrev pub footer : ℕ → Format Footer

@@ -13,7 +13,7 @@ use crate::node_read::node_below;
 use sasi_host::{BufferedFile, Host, PageReader, ReadFault};
 use sasi_types::Token;
 
-// How many bytes the levels below the root take.
+/// How many bytes the levels below the root take, in a tree of so many pairs.
 pub fn size_below_root(count: usize) -> u64
     requires { count ≤ 2 ^ 58 }
     ensures is { (most : ℕ) → count ≤ most → result ≡ bytes_below_root most count }
