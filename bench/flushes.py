@@ -2,6 +2,8 @@
 """Runs the built program on scripts with FLUSH and on a folder of data files, and prints the processor's time and peak memory.
 
 - 100,000 INSERTs with a FLUSH each 10,000, whose peak memory may be that of one memtable of them and 8 MiB more.
+- A FLUSH of 20,000 rows, and one with two indexes on the table, which may take 2.5 times the time of the first, and 80 bytes of memory
+  for each posting. Each is what a run takes beyond the same INSERTs without the FLUSH.
 - A SELECT over 1,000,000 rows in ten data files, whose peak memory may be its reply and 8 MiB more.
 - An opening of their folder, with its reads as strace counts them.
 
@@ -23,6 +25,9 @@ COUNT, EACH = 100000, 10000
 ROWS, FILES = 1000000, 10
 BESIDES = 8192
 TRIES = 3
+# Rows of one memtable, whose cells are fewer than make it flush itself; and how often a flush of them is run.
+INDEXED, FLUSH_TRIES = 20000, 9
+TIMES, POSTING = 2.5, 80
 
 
 def key(n):
@@ -43,6 +48,8 @@ def inserts(count, flush='FLUSH t;\n'):
 
 
 CREATE = 'CREATE TABLE t (k text PRIMARY KEY, a text, b int);\n'
+INDEXES = ''.join("CREATE CUSTOM INDEX %s ON t (%s) USING 'org.apache.cassandra.index.sasi.SASIIndex';\n" % (name, column) for name, column in (('i', 'a'), ('j', 'b')))
+SQLITE_INDEXES = 'CREATE INDEX ia ON t (a);\nCREATE INDEX ib ON t (b);\n'
 SQLITE = 'PRAGMA journal_mode=WAL;\nPRAGMA synchronous=FULL;\nCREATE TABLE t (k TEXT PRIMARY KEY, a TEXT, b INT) WITHOUT ROWID;\n'
 
 
@@ -184,6 +191,39 @@ def measure_flushes(program, top):
     return above
 
 
+def flush_of(program, top, create):
+    """What a FLUSH of the rows takes beyond their INSERTs: seconds, and KiB of memory."""
+    rows = create + [insert(n) for n in range(INDEXED)]
+    names = {'inserts': rows, 'flushed': rows + ['FLUSH t;\n']}
+    costs = {}
+    for name, lines in names.items():
+        script = write_script(os.path.join(top, name), lines)
+        runs = []
+        for _ in range(FLUSH_TRIES):
+            folder = os.path.join(top, 'folder')
+            runs.append(run([program, folder, script]))
+            shutil.rmtree(folder)
+        costs[name] = min(r[0] for r in runs), min(r[1] for r in runs)
+    return costs['flushed'][0] - costs['inserts'][0], costs['flushed'][1] - costs['inserts'][1]
+
+
+def measure_indexes(program, top):
+    """Whether a FLUSH with two indexes took more than it may."""
+    plain, plain_memory = flush_of(program, top, [CREATE])
+    indexed, memory = flush_of(program, top, [CREATE, INDEXES])
+    print_run('a FLUSH of %d rows' % INDEXED, plain, plain_memory)
+    print_run('with two indexes', indexed, memory)
+    print('it takes %.2f times the time, and %.1f bytes of memory for each posting' % (indexed / plain, memory * 1024 / (2 * INDEXED)))
+    if shutil.which('sqlite3'):
+        script = write_script(os.path.join(top, 'sqlite'), [SQLITE] + list(inserts(COUNT, 'PRAGMA wal_checkpoint(TRUNCATE);\n')))
+        print_run('sqlite3, %d INSERTs' % COUNT, *run(['sqlite3', os.path.join(top, 'plain.db')], script))
+        script = write_script(os.path.join(top, 'sqlite'), [SQLITE, SQLITE_INDEXES] + list(inserts(COUNT, 'PRAGMA wal_checkpoint(TRUNCATE);\n')))
+        print_run('sqlite3, with two indexes', *run(['sqlite3', os.path.join(top, 'indexed.db')], script))
+    script = write_script(os.path.join(top, 'all'), [CREATE, INDEXES] + list(inserts(COUNT)))
+    print_run('%d INSERTs, a FLUSH each %d, two indexes' % (COUNT, EACH), *min(run([program, os.path.join(top, 'all-%d' % at), script]) for at in range(TRIES)))
+    return indexed > TIMES * plain or memory * 1024 > POSTING * 2 * INDEXED
+
+
 def measure_select(program, top):
     """Whether the SELECT took more memory than it may."""
     folder = write_folder(os.path.join(top, 'rows'))
@@ -219,11 +259,11 @@ def main():
     program = os.path.join(top, 'crates/sasi_tool/out/sasi_tool') if len(sys.argv) < 2 else program
     print('%-46s %8s %9s %9s' % ('', 'seconds', 'peak MiB', 'limit'))
     above = False
-    for measure in (check_data_file, measure_flushes, measure_select):
+    for measure in (check_data_file, measure_flushes, measure_indexes, measure_select):
         with tempfile.TemporaryDirectory(dir=MEMORY) as folder:
             above = measure(program, folder) or above
     if above:
-        sys.exit('a run took more memory than its limit')
+        sys.exit('a run took more than its limit')
 
 
 main()

@@ -1,4 +1,5 @@
-//! Tests of memtables, merges, formats, bodies, token trees, data files and the indexes of manifests: their bytes, what is read of them, and damaged ones.
+//! Tests of memtables, merges, formats, bodies, token trees, data files, index files beside them, and the indexes and index files of
+//! manifests: their bytes, what is read of them, and damaged ones.
 //! A host is dropped by `drop`, which is proved once, and not at the end of each function.
 #![tactic(auto)]
 
@@ -8,6 +9,10 @@ mod bodies;
 mod fixture;
 #[cfg(test)]
 mod formats;
+#[cfg(test)]
+mod index_files;
+#[cfg(test)]
+mod manifest_parts;
 #[cfg(test)]
 mod manifests;
 #[cfg(test)]

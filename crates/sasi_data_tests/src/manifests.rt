@@ -22,8 +22,8 @@ const INDEXED: [u8; 101] = [
     0, 0, 0, 1, 3, 0, 0, 0, 7, 0, 0, 0, 1, 1, b'j', 0, 2, 2, 0, 0, 0,
 ];
 
-// Opens the manifest of these bytes.
-fn opened(rt: &impl Abort, alloc: Global, bytes: &[u8]) -> Result<Manifest, ReadFault> {
+/// Opens the manifest of these bytes.
+pub fn opened(rt: &impl Abort, alloc: Global, bytes: &[u8]) -> Result<Manifest, ReadFault> {
     let mut host = MemHost::new(alloc);
     host.put(MANIFEST, bytes).expect(rt, "memory for a file");
     assert!(rt; host.bytes(MANIFEST).is_some());
@@ -32,8 +32,8 @@ fn opened(rt: &impl Abort, alloc: Global, bytes: &[u8]) -> Result<Manifest, Read
     manifest
 }
 
-// The corruption of a manifest of these bytes.
-fn damage_in(rt: &impl Abort, alloc: Global, bytes: &[u8]) -> Option<Damage> {
+/// The corruption of a manifest of these bytes.
+pub fn damage_in(rt: &impl Abort, alloc: Global, bytes: &[u8]) -> Option<Damage> {
     match opened(rt, alloc, bytes) {
         Err(ReadFault::Damaged(damage)) => Some(damage),
         _ => None,
@@ -110,8 +110,14 @@ const DAMAGES: [(usize, u8, usize, usize, FormatRule); 23] = [
     (99, 2, 99, 100, FormatRule::Number),
 ];
 
-// The damage of a field that breaks the rule.
-fn damage_at(rt: &impl Abort, bytes: &[u8], from: usize, to: usize, rule: FormatRule) -> Damage {
+/// The damage of a field that breaks the rule.
+pub fn damage_at(
+    rt: &impl Abort,
+    bytes: &[u8],
+    from: usize,
+    to: usize,
+    rule: FormatRule,
+) -> Damage {
     let seen = bytes.get(from..to).expect(rt, "bytes");
     assert!(rt; seen.len() <= 8);
     found(MANIFEST, from as u64, rule, seen)

@@ -4,24 +4,35 @@ ghost use Rattle.sasi_host.specs.Memory.{host_view, memory_host};
 ghost use Rattle.sasi_host.specs.View.{IsThere, Reaches};
 
 use crate::fixture::{DATA, INSERTED, ONE, partition_of};
+use sasi_analyzers::Kit;
 use sasi_host::{BytePick, MemHost, NamePick, Pick};
 use sasi_manifest::PartNumbers;
 use sasi_pairs::{PairFault, PairWriter};
-use sasi_types::Partitioner;
+use sasi_types::{IndexList, Partitioner};
 use std::alloc::Global;
 use std::process::Abort;
 
-// A writer of a data file, with one partition.
+// A kit without analyzers.
+fn no_kit(alloc: Global) -> Kit {
+    Kit::new(Vec::new(alloc))
+}
+
+// A writer of a data file without indexes, with one partition.
 fn pushed(rt: &impl Abort, alloc: Global, host: &mut MemHost) -> PairWriter
-    ensures room { Reaches (host_view (memory_host host.new)) result.file result.offset }
-    ensures some { 1 ≤ length result.pairs }
-    ensures usable { IsTrue result.usable }
+    ensures room { Reaches (host_view (memory_host host.new)) result.writer.file result.writer.offset }
+    ensures some { 1 ≤ length result.writer.pairs }
+    ensures usable { IsTrue result.writer.usable }
 {
     assert!(rt; host.bytes(DATA).is_none());
     let (key, part) = partition_of(rt, alloc, &INSERTED);
-    let mut writer = PairWriter::begin(alloc, host, 7, Partitioner::Lead8).expect(rt, "begun");
-    writer.push(host, &key, &part).expect(rt, "pushed");
-    drop((key, part));
+    let none = IndexList::new(alloc);
+    let mut writer = PairWriter::begin(alloc, host, 7, Partitioner::Lead8, &none).expect(
+        rt, "begun",
+    );
+    writer
+        .push(host, &mut no_kit(alloc), &key, &part)
+        .expect(rt, "pushed");
+    drop((key, part, none));
     writer
 }
 
@@ -51,13 +62,14 @@ fn crash_leaves_a_sealed_file(rt: HostRuntime) {
 fn is_sealed(rt: &impl Abort, alloc: Global, host: &mut MemHost) -> bool {
     assert!(rt; host.bytes(DATA).is_none());
     let (key, part) = partition_of(rt, alloc, &INSERTED);
-    let Ok(mut writer) = PairWriter::begin(alloc, host, 7, Partitioner::Lead8) else {
+    let none = IndexList::new(alloc);
+    let Ok(mut writer) = PairWriter::begin(alloc, host, 7, Partitioner::Lead8, &none) else {
         return false;
     };
-    if writer.push(host, &key, &part).is_err() {
+    if writer.push(host, &mut no_kit(alloc), &key, &part).is_err() {
         return false;
     }
-    drop((key, part));
+    drop((key, part, none));
     writer.seal(host, &PartNumbers::new(alloc)).is_ok()
 }
 
@@ -91,14 +103,17 @@ fn file_that_is_given_up_is_gone(rt: HostRuntime) {
 
 // A writer whose first push failed.
 fn failed(rt: &impl Abort, alloc: Global, host: &mut MemHost) -> PairWriter
-    ensures { IsThere (host_view (memory_host host.new)) result.file }
+    ensures { IsThere (host_view (memory_host host.new)) result.writer.file }
 {
     host.fail_disk(vec![in alloc; 3].expect(rt, "memory for a call"));
     assert!(rt; host.bytes(DATA).is_none());
     let (key, part) = partition_of(rt, alloc, &INSERTED);
-    let mut writer = PairWriter::begin(alloc, host, 7, Partitioner::Lead8).expect(rt, "begun");
-    let result = writer.push(host, &key, &part);
-    drop((key, part));
+    let none = IndexList::new(alloc);
+    let mut writer = PairWriter::begin(alloc, host, 7, Partitioner::Lead8, &none).expect(
+        rt, "begun",
+    );
+    let result = writer.push(host, &mut no_kit(alloc), &key, &part);
+    drop((key, part, none));
     assert!(rt; result == Err(PairFault::Failed));
     writer
 }

@@ -7,7 +7,7 @@ ghost use Rattle.sasi_datawrite.specs.Causes.{MissingOnlyIfLacking};
 
 use sasi_types::{Cell, KitFault, Token};
 
-/// Gets each partition and cell that a data file is written from, as the builder of an index does.
+/// Gets each partition and cell that a data file is written from.
 pub trait FlushObserver {
     /// It had these calls.
     ghost agrees: { Self → List Call → Type 0 };

@@ -1,5 +1,5 @@
 // Writes a data file.
-ghost use Rattle.std.specs.Prelude.{◌≡◌, ◌≤◌, ◌∷◌, ◌++◌, [], List, length, IfOk, OnOk, IsTrue, is_ok};
+ghost use Rattle.std.specs.Prelude.{◌≡◌, ◌<◌, ◌≤◌, ◌∷◌, ◌++◌, [], List, length, IfOk, OnOk, IsTrue, is_ok};
 ghost use Rattle.sasi_types.specs.declared.class.Class.{Class};
 ghost use Rattle.sasi_types.specs.Token.{token_of};
 ghost use Rattle.sasi_host.specs.View.{DiskCauses, Holds, IsAbsent, IsThere, ListCauses, MakesCalls, Reaches};
@@ -94,6 +94,7 @@ impl DataWriter {
         ensures observed { OnOk result ((calls : List Call) → O.agrees watch.old calls → O.agrees watch.new (calls ++ partition_calls (token_of self.old.partitioner key.now) self.old.offset part.now)) }
         ensures pairs { OnOk result (self.new.pairs ≡ self.old.pairs ++ record { token = token_of self.old.partitioner key.now; place = self.old.offset } ∷ []) }
         ensures last { OnOk result ((last_pair self.new.pairs).token ≡ token_of self.old.partitioner key.now) }
+        ensures later { OnOk result (self.old.offset < self.new.offset) }
         ensures room { OnOk result (Reaches (H.view host.new) self.new.file self.new.offset) }
         ensures usable { self.new.usable ≡ is_ok result }
         ensures file { self.new.file ≡ self.old.file }

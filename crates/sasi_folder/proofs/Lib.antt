@@ -4,3 +4,4 @@ pub mod FolderChanges
 pub mod Recording
 pub mod Creating
 pub mod Defining
+pub mod IndexEnds

@@ -1,5 +1,5 @@
 -- What a folder holds. A seal tells that the manifest of its number is whole, and the manifest of the highest seal counts. It lists
--- the tables, their data files and the live segments of the log.
+-- the tables, their data files and index files, and the live segments of the log.
 use Rattle.std.specs.Prelude.{◌≡◌, ◌≢◌, ℕ, suc, ◌+◌, ◌<◌, List, [], ◌∷◌, length, Some, None, IsSome, ⊤}
 use Rattle.std.specs.FinMap.{get}
 use Rattle.sasi_host.specs.declared.name.FileName.{FileName}

@@ -1,17 +1,18 @@
 -- Changes of files that a layout doesn't list: a data file of a later number, a segment of the log that isn't live, and segments below the floor.
-use Rattle.std.specs.Prelude.{ℕ, suc, List, map, ◌≡◌, ◌≢◌, ◌<◌, ◌∷◌, []}
+use Rattle.std.specs.Prelude.{ℕ, suc, List, map, ◌<◌, ◌∷◌, []}
 use Rattle.std.proofs.Common.{ap, arith}
 use Rattle.std.specs.FinMap.{get}
 use Rattle.std.specs.List.{AllByRecursion}
 use Rattle.sasi_host.specs.Disk.{Same}
 use Rattle.sasi_host.specs.Names.{Folder, log_name, manifest_name, seal_name, data_name}
-use Rattle.sasi_host.specs.declared.name.FileName.{FileName}
+use Rattle.sasi_manifest.specs.declared.files.PartNumber.{PartNumber}
 use Rattle.sasi_folder.proofs.FolderLaws.{kinds_apart, numbers_apart}
 use Rattle.sasi_layout.proofs.ListingLaws.{rising_bound}
 use Rattle.sasi_layout.proofs.ShapeLaws.{tables_agree}
-use Rattle.sasi_layout.specs.Frames.{AgreeOn, DeletesOld}
+use Rattle.sasi_manifest.specs.ListedFiles.{index_name}
+use Rattle.sasi_layout.specs.Frames.{AgreeOn, AgreeOnFiles, AgreeOnTables, AreAlike, DeletesOld, OthersSame}
 use Rattle.sasi_layout.specs.Layout.{File, Layout, TableParts, bare, bare_table, listed_of}
-use Rattle.sasi_layout.specs.NumbersInOrder.{HasFilesInOrder, Rising}
+use Rattle.sasi_layout.specs.NumbersInOrder.{HasFilesInOrder, HasNumbersInOrder, Rising}
 
 -- the files of the tables have lower numbers
 abbrev pub AreBelow : ℕ → List TableParts → Type 0
@@ -25,13 +26,21 @@ all_below : (high last : ℕ) (ts : List TableParts) → AllByRecursion (HasFile
 all_below high last [] in_order = tt
 all_below high last (t ∷ ts) in_order = (rising_below 0 high t.files in_order.0.rise, all_below high last ts in_order.1)
 
-files_alike : (x y : Folder) (number : ℕ) → ((name : FileName) → name ≢ data_name number → get y name ≡ get x name) → (fs : List File) → AllByRecursion (λ (f : File). f.listed.number < number) fs → AllByRecursion (λ (f : File). get y (data_name f.listed.number) ≡ get x (data_name f.listed.number)) fs
-files_alike x y number others [] below = tt
-files_alike x y number others (f ∷ fs) below = (others (data_name f.listed.number) (numbers_apart _ _ (omega (arith, below.0))), files_alike x y number others fs below.1)
+parts_alike : (x y : Folder) (number : ℕ) → OthersSame x y number → (n : ℕ) (ps : List PartNumber) → n < number → AreAlike x y (map (index_name n) ps)
+parts_alike x y number others n [] below = tt
+parts_alike x y number others n (p ∷ ps) below = (others (index_name n p) (omega arith) (omega (arith, below)), parts_alike x y number others n ps below)
 
-tables_alike : (x y : Folder) (number : ℕ) → ((name : FileName) → name ≢ data_name number → get y name ≡ get x name) → (ts : List TableParts) → AreBelow number ts → AllByRecursion (λ (t : TableParts). AllByRecursion (λ (f : File). get y (data_name f.listed.number) ≡ get x (data_name f.listed.number)) t.files) (map bare_table ts)
+files_alike : (x y : Folder) (number : ℕ) → OthersSame x y number → (fs : List File) → AllByRecursion (λ (f : File). f.listed.number < number) fs → AgreeOnFiles x y fs
+files_alike x y number others [] below = tt
+files_alike x y number others (f ∷ fs) below = ((others (data_name f.listed.number) (omega arith) (omega (arith, below.0)), parts_alike x y number others f.listed.number f.listed.parts below.0), files_alike x y number others fs below.1)
+
+pub tables_alike : (x y : Folder) (number : ℕ) → OthersSame x y number → (ts : List TableParts) → AreBelow number ts → AgreeOnTables x y (map bare_table ts)
 tables_alike x y number others [] below = tt
 tables_alike x y number others (t ∷ ts) below = (files_alike x y number others t.files below.0, tables_alike x y number others ts below.1)
+
+-- where no file changes but those of the next data number, those of the tables are the same
+pub tables_others : (l : Layout) (x y : Folder) → HasNumbersInOrder l → OthersSame x y (suc l.used.«data») → AgreeOnTables x y (map bare_table l.tables)
+tables_others l x y in_order others = tables_alike x y (suc l.used.«data») others l.tables (all_below l.used.«data» l.last l.tables in_order.files)
 
 -- segments below the floor
 pub agree_deleted : (l : Layout) (x y : Folder) → DeletesOld l.floor x y → AgreeOn (bare l) x y
@@ -39,7 +48,7 @@ agree_deleted l x y others = record {
   seals = λ n. others (seal_name n) (λ segment below. kinds_apart _ _ (omega arith));
   manifest = others (manifest_name l.used.manifest) (λ segment below. kinds_apart _ _ (omega arith));
   logs = λ segment above under. others (log_name segment) (λ dead below. numbers_apart _ _ (omega (arith, above, below)));
-  files = tables_agree x y (λ n. others (data_name n) (λ segment below. kinds_apart _ _ (omega arith))) (map bare_table l.tables);
+  files = tables_agree x y (λ name file. others name (λ segment below. kinds_apart _ _ (omega (arith, file)))) (map bare_table l.tables);
 }
 
 -- nothing
@@ -48,5 +57,5 @@ agree_same l x y same = record {
   seals = λ n. ap (λ (f : Folder). get f (seal_name n)) same;
   manifest = ap (λ (f : Folder). get f (manifest_name l.used.manifest)) same;
   logs = λ segment above under. ap (λ (f : Folder). get f (log_name segment)) same;
-  files = tables_agree x y (λ n. ap (λ (f : Folder). get f (data_name n)) same) l.tables;
+  files = tables_agree x y (λ name file. ap (λ (f : Folder). get f name) same) l.tables;
 }

@@ -1,5 +1,5 @@
 -- The content of a data file that is written of a map.
-use Rattle.std.specs.Prelude.{T, suc, Bool, true, false, List, Some, refl, length, map, ◌≡◌, ◌&&◌, ◌^◌, ◌≤◌, ◌∷◌, []}
+use Rattle.std.specs.Prelude.{ℕ, T, suc, Bool, true, false, List, Some, refl, length, map, ◌≡◌, ◌&&◌, ◌^◌, ◌≤◌, ◌∷◌, []}
 use Rattle.std.proofs.Common.{◌∙◌, sym, ap, subst, arith}
 use Rattle.std.specs.FinMap.{get, is_sorted}
 use Rattle.std.specs.FinMap.Entries.{below_all}
@@ -25,7 +25,7 @@ use Rattle.sasi_datawrite.specs.Format.{Content, data_bytes, decorated_key}
 use Rattle.sasi_layout.specs.Flushed.{contents_of}
 use Rattle.sasi_layout.specs.Layout.{File}
 use Rattle.sasi_layout.specs.Serving.{IsStorable}
-use Rattle.sasi_layout.specs.Shape.{HasFile, map_of}
+use Rattle.sasi_layout.specs.Shape.{HasFile, HasIndexFile, map_of}
 
 abbrev pub Entries : Type 0
 Entries = List (DecoratedKey × Partition)
@@ -104,8 +104,9 @@ written_file p types m is = record {
 }
 
 -- The file that is written of a map is there in a folder that has its bytes.
-pub has_written : (folder : Folder) (p : Partitioner) (d : Definition) (file : File) → IsWritableMap p (types_of d) file.holds → get folder (data_name file.listed.number) ≡ Some (data_bytes p (contents_of file.holds)) → length (data_bytes p (contents_of file.holds)) ≤ 2 ^ 62 → HasFile folder p d file
-has_written folder p d file is there fits = record {
+pub has_written : (folder : Folder) (p : Partitioner) (d : Definition) (ns : List ℕ) (file : File) → IsWritableMap p (types_of d) file.holds → get folder (data_name file.listed.number) ≡ Some (data_bytes p (contents_of file.holds)) → length (data_bytes p (contents_of file.holds)) ≤ 2 ^ 62
+    → AllByRecursion (HasIndexFile folder p d ns file.listed.number (contents_of file.holds)) file.listed.parts → HasFile folder p d ns file
+has_written folder p d ns file is there fits indexes = record {
   bytes = data_bytes p (contents_of file.holds);
   content = contents_of file.holds;
   there = there;
@@ -113,4 +114,5 @@ has_written folder p d file is there fits = record {
   fits = fits;
   keys = keys_are_bytes p (types_of d) (map_.entries file.holds) is.storable;
   holds = sym (map_back p (types_of d) file.holds is.storable);
+  indexes = indexes;
 }

@@ -12,7 +12,7 @@ use Rattle.sasi_model.specs.State.{Definition}
 use Rattle.sasi_cells.proofs.Laws.Maps.{then_empty}
 use Rattle.sasi_cells.specs.declared.mutation.Mutation.{Mutation}
 use Rattle.sasi_host.specs.Disk.{FileChange, LeftWith}
-use Rattle.sasi_host.specs.Names.{Bytes, Folder, log_name, manifest_name, seal_name, data_name}
+use Rattle.sasi_host.specs.Names.{Bytes, Folder, log_name, manifest_name, seal_name}
 use Rattle.sasi_host.specs.declared.name.FileName.{FileName}
 use Rattle.sasi_commitlog.specs.Format.{IsMutationOf, Tables}
 use Rattle.sasi_manifest.specs.Format.{IsManifest}
@@ -25,6 +25,7 @@ use Rattle.sasi_folder.specs.FolderContents.{HasSegments}
 use Rattle.sasi_layout.proofs.Flushes.{flush_kept}
 use Rattle.sasi_layout.proofs.LayoutLaws.{bare_listing}
 use Rattle.sasi_layout.proofs.Replaying.{no_mutation}
+use Rattle.sasi_layout.specs.Frames.{SameFiles}
 use Rattle.sasi_layout.proofs.ShapeLaws.{all_agree, bare_shape, files_kept, bare_idle}
 use Rattle.sasi_layout.specs.Flushed.{ListsEither}
 use Rattle.sasi_layout.specs.Layout.{Layout, TableParts, bare, bare_table, listed_of, listing_of}
@@ -59,7 +60,7 @@ nothing_replayed x p listing table since n m (ms ∷ logs) is has =
 
 -- ---- the folder
 
-module _ (x y : Folder) (p : Partitioner) (floor last : ℕ) (d : Definition) (logs : List (List Mutation)) (same : (number : ℕ) → get y (data_name number) ≡ get x (data_name number)) where
+module _ (x y : Folder) (p : Partitioner) (floor last : ℕ) (d : Definition) (logs : List (List Mutation)) (same : SameFiles x y) where
   created_shaped : (n : ℕ) (ts : List TableParts) → (replay p (n + length ts) last floor map_.empty logs ≡ map_.empty) → (first_in (n + length ts) last floor logs ≡ None) → AreShaped x p floor n logs (map bare_table ts) → AreShaped y p floor n logs (map bare_table (ts ++ new_parts d last ∷ []))
   created_shaped n [] none first are =
       let e : n + 0 ≡ n = omega arith in (
@@ -73,7 +74,7 @@ module _ (x y : Folder) (p : Partitioner) (floor last : ℕ) (d : Definition) (l
       )
   created_shaped n (t ∷ ts) none first are =
       let e : n + length (t ∷ ts) ≡ suc n + length ts = omega arith in (
-        record { files = files_kept x y p t.definition t.files (all_agree x y same t.files) are.0.files; idle = bare_idle t; memtable = are.0.memtable; first = are.0.first },
+        record { files = files_kept x y p t.definition t.numbers t.files (all_agree x y same t.files) are.0.files; idle = bare_idle t; memtable = are.0.memtable; first = are.0.first },
         created_shaped (suc n) ts (subst (λ i. replay p i last floor map_.empty logs ≡ map_.empty) e none) (subst (λ i. first_in i last floor logs ≡ None) e first) are.1,
       )
 
@@ -94,7 +95,7 @@ module _ (x y : Folder) (l : Layout) (d : Definition) (logs : List (List Mutatio
       (bytes, there, later)
       has.live
       (subst (λ (ts : List ListedDefinition). HasSegments y (numbered_types 1 ts) l.floor logs) more (subst (λ (ts : Tables). HasSegments y ts l.floor logs) (sym (types_push 1 listed (listed_of (new_parts d l.last)))) (segments_of_more y (numbered_types 1 listed) _ l.floor logs kept)))
-      (created_shaped x y l.partitioner l.floor l.last d logs (λ number. others (data_name number) (kinds_apart _ _ (omega arith))) 1 l.tables none.0 none.1 has.tables)
+      (created_shaped x y l.partitioner l.floor l.last d logs (λ name file. others name (kinds_apart _ _ (omega (arith, file)))) 1 l.tables none.0 none.1 has.tables)
 
   -- where the manifest lists the same as before, the shape is the one from before
   pub create_kept : (bytes : Bytes) → get y (manifest_name l.used.manifest) ≡ Some bytes → IsManifest l.used.manifest bytes (listing_of l) → HasShape y (bare l) logs

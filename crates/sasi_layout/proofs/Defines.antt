@@ -1,8 +1,9 @@
 -- A new index: one record more in the manifest, which lists it.
-use Rattle.std.specs.Prelude.{ℕ, suc, true, false, cond, nat_eq, List, Option, Some, refl, map, ◌≡◌, ◌≢◌, ◌∷◌, []}
+use Rattle.std.specs.Prelude.{Contains, ℕ, suc, true, false, cond, nat_eq, List, Option, Some, refl, map, ◌≡◌, ◌≢◌, ◌∷◌, ◌++◌, []}
 use Rattle.std.proofs.Common.{sym, ap, ◌∙◌, subst, ⊎_elim, arith}
 use Rattle.std.specs.FinMap.{get}
-use Rattle.std.specs.List.{AllByRecursion, cons_option}
+use Rattle.std.specs.List.{AllByRecursion, cons_option, zip}
+use Rattle.std.proofs.lemmas.List.Elements.{Contains-append_left}
 use Rattle.std.specs.Option.{option_map, option_map_or}
 use Rattle.sasi_types.specs.declared.column.ColumnType.{ColumnType}
 use Rattle.sasi_types.specs.declared.partitioner.Partitioner.{Partitioner}
@@ -10,17 +11,19 @@ use Rattle.sasi_model.specs.State.{Definition, Index, with_index}
 use Rattle.sasi_model.specs.Stored.{column_types}
 use Rattle.sasi_cells.specs.declared.mutation.Mutation.{Mutation}
 use Rattle.sasi_host.specs.Disk.{AnyChange, Changes, Each, FileChange, LeftWith}
-use Rattle.sasi_host.specs.Names.{Bytes, Folder, log_name, manifest_name, seal_name, data_name}
+use Rattle.sasi_host.specs.Names.{Bytes, Folder, log_name, manifest_name, seal_name}
 use Rattle.sasi_host.specs.View.{View, IsSound}
 use Rattle.sasi_host.specs.declared.name.FileName.{FileName}
 use Rattle.sasi_host.proofs.ChangeLaws.{at_each_moment}
 use Rattle.sasi_commitlog.specs.Format.{Tables}
+use Rattle.sasi_datawrite.specs.Format.{Content}
 use Rattle.sasi_manifest.specs.Format.{IsManifest, IsNext}
 use Rattle.sasi_manifest.specs.Listings.{after_all, index_edit, listed_with_index, with_record_counted}
 use Rattle.sasi_manifest.specs.Edits.{encoded}
 use Rattle.sasi_manifest.specs.ListedDefinition.{ListedDefinition}
 use Rattle.sasi_manifest.specs.OpenManifest.{ManifestStands}
 use Rattle.sasi_manifest.specs.declared.edit.Edit.{Edit}
+use Rattle.sasi_manifest.specs.declared.files.PartNumber.{PartNumber}
 use Rattle.sasi_model.specs.Changes.{at_number}
 use Rattle.sasi_manifest.specs.Types.{numbered_types}
 use Rattle.sasi_manifest.specs.declared.listing.Listing.{Listing}
@@ -33,9 +36,10 @@ use Rattle.sasi_layout.proofs.Numbered.{seen_at}
 use Rattle.sasi_layout.proofs.Trails.{none_done, all_done, manifest_each}
 use Rattle.sasi_layout.specs.Between.{Between}
 use Rattle.sasi_layout.specs.Flushed.{ListsEither}
+use Rattle.sasi_layout.specs.Frames.{SameFiles}
 use Rattle.sasi_layout.specs.Layout.{File, Layout, TableParts, bare, bare_table, listed_of, listing_of, numbered}
 use Rattle.sasi_layout.specs.Moves.{Move, Define, after_define, define_edits, define_table, index_def, moved}
-use Rattle.sasi_layout.specs.Shape.{HasFile, IsShaped, AreShaped, HasShape}
+use Rattle.sasi_layout.specs.Shape.{HasFile, HasIndexFile, IsShaped, AreShaped, HasShape}
 
 -- ---- any move with a record
 
@@ -49,23 +53,45 @@ module _ (l : Layout) (m : Move) (logs later : List (List Mutation)) (Has : Fold
       ⊎_elim (λ former. none_done l (m ∷ []) y (logs, flush_kept x y l 0 logs has.0 step.others step.this.0 step.this.1 former))
       (λ next. all_done l (m ∷ []) y (later, gained x y has.0 has.1 step.others step.this.0 step.this.1 next)) step.this.2)
 
+-- ---- numbered indexes
+
+-- longer lists have the same pairs in front
+zip_front : {A B : Type 0} (xs more : List A) (ys others : List B) → (rest : List (A × B)) × (zip (xs ++ more) (ys ++ others) ≡ zip xs ys ++ rest)
+zip_front [] more ys others = (zip more (ys ++ others), refl)
+zip_front (x ∷ xs) more [] others = (zip ((x ∷ xs) ++ more) others, refl)
+zip_front {A} {B} (x ∷ xs) more (y ∷ ys) others = (let rest = zip_front xs more ys others in (rest.0, ap (λ (l : List (A × B)). (x, y) ∷ l) rest.1))
+
+-- and so what is among the pairs stays
+zip_longer : {A B : Type 0} (xs more : List A) (ys others : List B) (e : A × B) → Contains (zip xs ys) e → Contains (zip (xs ++ more) (ys ++ others)) e
+zip_longer {A} {B} xs more ys others e has =
+    let front = zip_front xs more ys others in
+    subst (λ (l : List (A × B)). Contains l e) (sym front.1) (Contains-append_left (zip xs ys) front.0 e has)
+
 -- ---- tables
 
-module _ (x y : Folder) (p : Partitioner) (floor table number : ℕ) (index : Index) (logs : List (List Mutation)) (same : (n : ℕ) → get y (data_name n) ≡ get x (data_name n)) where
-  files_defined : (d : Definition) (fs : List File) → AllByRecursion (HasFile y p d) fs → AllByRecursion (HasFile y p (with_index index d)) fs
-  files_defined d [] has = tt
-  files_defined d (f ∷ fs) has = (
-    record { bytes = has.0.bytes; content = has.0.content; there = has.0.there; data_file = has.0.data_file; fits = has.0.fits; keys = has.0.keys; holds = has.0.holds },
-    files_defined d fs has.1,
+module _ (x y : Folder) (p : Partitioner) (floor table number : ℕ) (index : Index) (logs : List (List Mutation)) (same : SameFiles x y) where
+  parts_defined : (d : Definition) (ns : List ℕ) (file : ℕ) (content : Content) (ps : List PartNumber) → AllByRecursion (HasIndexFile y p d ns file content) ps
+      → AllByRecursion (HasIndexFile y p (with_index index d) (ns ++ number ∷ []) file content) ps
+  parts_defined d ns file content [] has = tt
+  parts_defined d ns file content (part ∷ ps) has = (
+    record { index = has.0.index; defined = zip_longer ns (number ∷ []) d.indexes (index ∷ []) (part.index, has.0.index) has.0.defined; bytes = has.0.bytes; there = has.0.there; stands = has.0.stands; fits = has.0.fits },
+    parts_defined d ns file content ps has.1,
+  )
+
+  files_defined : (d : Definition) (ns : List ℕ) (fs : List File) → AllByRecursion (HasFile y p d ns) fs → AllByRecursion (HasFile y p (with_index index d) (ns ++ number ∷ [])) fs
+  files_defined d ns [] has = tt
+  files_defined d ns (f ∷ fs) has = (
+    record { bytes = has.0.bytes; content = has.0.content; there = has.0.there; data_file = has.0.data_file; fits = has.0.fits; keys = has.0.keys; holds = has.0.holds; indexes = parts_defined d ns f.listed.number has.0.content f.listed.parts has.0.indexes },
+    files_defined d ns fs has.1,
   )
 
   defined_shaped : (n : ℕ) (ts : List TableParts) → AreShaped x p floor n logs (map bare_table ts) → AreShaped y p floor n logs (map bare_table (at_number n table (define_table number index) ts))
   defined_shaped n [] are = tt
   defined_shaped n (t ∷ ts) are =
       let rest = defined_shaped (suc n) ts are.1 in
-      let files = files_kept x y p t.definition t.files (all_agree x y same t.files) are.0.files in
+      let files = files_kept x y p t.definition t.numbers t.files (all_agree x y same t.files) are.0.files in
       elim (nat_eq n table) as (λ b. IsShaped y p floor n logs (bare_table (cond b (define_table number index t) t)) × AreShaped y p floor (suc n) logs (map bare_table (at_number (suc n) table (define_table number index) ts))) [
-        | true ↦ (record { files = files_defined t.definition t.files files; idle = bare_idle t; memtable = are.0.memtable; first = are.0.first }, rest)
+        | true ↦ (record { files = files_defined t.definition t.numbers t.files files; idle = bare_idle t; memtable = are.0.memtable; first = are.0.first }, rest)
         | false ↦ (record { files = files; idle = bare_idle t; memtable = are.0.memtable; first = are.0.first }, rest)
       ]
 
@@ -92,7 +118,7 @@ define_gained l table index logs x y has others bytes there later =
     has.live
     (subst (λ (ts : Tables). HasSegments y ts l.floor logs) (sym (types_at (define_table (suc l.used.index) index) (λ t. refl) 1 table 1 l.tables))
     (segments_kept x y (numbered_types 1 (listing_of l).tables) l.floor logs (λ segment above below. others (log_name segment) (kinds_apart _ _ (omega arith))) segments))
-    (defined_shaped x y l.partitioner l.floor table (suc l.used.index) index logs (λ n. others (data_name n) (kinds_apart _ _ (omega arith))) 1 l.tables has.tables)
+    (defined_shaped x y l.partitioner l.floor table (suc l.used.index) index logs (λ name file. others name (kinds_apart _ _ (omega (arith, file)))) 1 l.tables has.tables)
 
 -- what is listed of the tables with a new index
 defined_tables : (table : ℕ) (index : Index) (l : Layout) (t : TableParts) → numbered 1 table l.tables ≡ Some t

@@ -1,7 +1,7 @@
 -- A store serves a layout as well where no image is new.
 use Rattle.std.specs.Prelude.{ℕ, List}
 use Rattle.sasi_host.specs.declared.name.FileName.{FileName}
-use Rattle.sasi_host.specs.Names.{Bytes, Folder, log_name, manifest_name}
+use Rattle.sasi_host.specs.Names.{Bytes, Folder, log_name}
 use Rattle.sasi_host.specs.View.{IsTold, View}
 use Rattle.sasi_gated.specs.Handles.{IsAtEnd}
 use Rattle.sasi_gated.proofs.HandleLaws.{end_stays}

@@ -11,7 +11,7 @@ use Rattle.sasi_model.specs.Stored.{column_types}
 use Rattle.sasi_cells.proofs.Laws.Maps.{then_empty}
 use Rattle.sasi_cells.specs.declared.mutation.Mutation.{Mutation}
 use Rattle.sasi_host.specs.Disk.{FileChange, LeftWith}
-use Rattle.sasi_host.specs.Names.{Bytes, Folder, log_name, manifest_name, seal_name, data_name}
+use Rattle.sasi_host.specs.Names.{Bytes, Folder, log_name, manifest_name, seal_name}
 use Rattle.sasi_host.specs.declared.name.FileName.{FileName}
 use Rattle.sasi_commitlog.specs.Format.{Tables}
 use Rattle.sasi_manifest.proofs.Replacing.{At}
@@ -25,6 +25,7 @@ use Rattle.sasi_folder.specs.FolderContents.{HasSegment, HasSegments, IsSealed}
 use Rattle.sasi_layout.proofs.Floors.{need_floor, floor_below, floor_above, NeedFrom}
 use Rattle.sasi_layout.proofs.LayoutLaws.{bare_listing}
 use Rattle.sasi_layout.proofs.Replaying.{IsFrom, replay_dropped, replay_late, replay_with_none}
+use Rattle.sasi_layout.specs.Frames.{SameFiles}
 use Rattle.sasi_layout.proofs.ShapeLaws.{all_agree, bare_shape, files_kept, bare_idle, shaped_kept}
 use Rattle.sasi_layout.specs.Flushed.{HasNew, logs_after, ListsEither}
 use Rattle.sasi_layout.specs.Layout.{Layout, TableParts, bare, bare_table, listed_of, listing_of}
@@ -33,17 +34,17 @@ use Rattle.sasi_layout.specs.Shape.{HasFile, replay, first_in, IsShaped, AreShap
 
 -- ---- tables
 
-module _ (x y : Folder) (p : Partitioner) (floor next k table file last : ℕ) (logs : List (List Mutation)) (raised : next ≡ floor + k) (ends : next + length (drop k logs) ≤ last) (same : (number : ℕ) → get y (data_name number) ≡ get x (data_name number)) where
-  flush_shaped : (n : ℕ) (t : TableParts) → (nat_eq n table ≡ false → IsFrom next t.first) → (nat_eq n table ≡ true → HasFile x p t.definition (flushed_file file t)) → IsShaped x p floor n logs (bare_table t)
-      → IsShaped y p next n (drop k logs ++ [] ∷ []) (bare_table (cond (nat_eq n table) (flush_table file last t) t))
+module _ (x y : Folder) (p : Partitioner) (floor next k table file part last : ℕ) (logs : List (List Mutation)) (raised : next ≡ floor + k) (ends : next + length (drop k logs) ≤ last) (same : SameFiles x y) where
+  flush_shaped : (n : ℕ) (t : TableParts) → (nat_eq n table ≡ false → IsFrom next t.first) → (nat_eq n table ≡ true → HasFile x p t.definition t.numbers (flushed_file file part t)) → IsShaped x p floor n logs (bare_table t)
+      → IsShaped y p next n (drop k logs ++ [] ∷ []) (bare_table (cond (nat_eq n table) (flush_table file part last t) t))
   flush_shaped n t need new is =
-      elim (nat_eq n table) as (λ b. (b ≡ false → IsFrom next t.first) → (b ≡ true → HasFile x p t.definition (flushed_file file t)) → IsShaped y p next n (drop k logs ++ [] ∷ []) (bare_table (cond b (flush_table file last t) t))) [
+      elim (nat_eq n table) as (λ b. (b ≡ false → IsFrom next t.first) → (b ≡ true → HasFile x p t.definition t.numbers (flushed_file file part t)) → IsShaped y p next n (drop k logs ++ [] ∷ []) (bare_table (cond b (flush_table file part last t) t))) [
         | true ↦ λ need' new'.
             let none = replay_with_none p n last next map_.empty (drop k logs) in
             let late = replay_late p n last next map_.empty (drop k logs) ends in
             record {
-              files = all_both (HasFile y p t.definition) t.files (flushed_file file t ∷ []) (files_kept x y p t.definition t.files (all_agree x y same t.files) is.files)
-                  (files_kept x y p t.definition (flushed_file file t ∷ []) (all_agree x y same (flushed_file file t ∷ [])) (new' refl, tt));
+              files = all_both (HasFile y p t.definition t.numbers) t.files (flushed_file file part t ∷ []) (files_kept x y p t.definition t.numbers t.files (all_agree x y same t.files) is.files)
+                  (files_kept x y p t.definition t.numbers (flushed_file file part t ∷ []) (all_agree x y same (flushed_file file part t ∷ [])) (new' refl, tt));
               idle = bare_idle t;
               memtable = then_empty map_.empty ∙ sym (none.0 ∙ late.0);
               first = sym (none.1 ∙ late.1);
@@ -53,14 +54,14 @@ module _ (x y : Folder) (p : Partitioner) (floor next k table file last : ℕ) (
             let from : IsFrom (floor + k) (first_in n t.since floor logs) = subst (λ i. IsFrom i (first_in n t.since floor logs)) raised (subst (IsFrom next) is.first (need' refl)) in
             let dropped = replay_dropped p n t.since floor k map_.empty logs from in
             record {
-              files = files_kept x y p t.definition t.files (all_agree x y same t.files) is.files;
+              files = files_kept x y p t.definition t.numbers t.files (all_agree x y same t.files) is.files;
               idle = bare_idle t;
               memtable = is.memtable ∙ dropped.0 ∙ sym (ap (λ i. replay p n t.since i map_.empty (drop k logs)) raised) ∙ sym none.0;
               first = is.first ∙ dropped.1 ∙ sym (ap (λ i. first_in n t.since i (drop k logs)) raised) ∙ sym none.1;
             }
       ] need new
 
-  flushed_shaped : (n : ℕ) (ts : List TableParts) → NeedFrom next n table ts → At n table (λ t. HasFile x p t.definition (flushed_file file t)) ts → AreShaped x p floor n logs (map bare_table ts) → AreShaped y p next n (drop k logs ++ [] ∷ []) (map bare_table (at_number n table (flush_table file last) ts))
+  flushed_shaped : (n : ℕ) (ts : List TableParts) → NeedFrom next n table ts → At n table (λ t. HasFile x p t.definition t.numbers (flushed_file file part t)) ts → AreShaped x p floor n logs (map bare_table ts) → AreShaped y p next n (drop k logs ++ [] ∷ []) (map bare_table (at_number n table (flush_table file part last) ts))
   flushed_shaped n [] need new are = tt
   flushed_shaped n (t ∷ ts) need new are = (flush_shaped n t need.0 new.0 are.0, flushed_shaped (suc n) ts need.1 new.1 are.1)
 
@@ -71,14 +72,14 @@ segments_dropped x tables n zero logs has = let e : n ≡ n + 0 = omega arith in
 segments_dropped x tables n (suc k) [] has = tt
 segments_dropped x tables n (suc k) (ms ∷ logs) has = let e : suc n + k ≡ n + suc k = omega arith in subst (λ i. HasSegments x tables i (drop k logs)) e (segments_dropped x tables (suc n) k logs has.1)
 
-types_flushed : (file last n table number : ℕ) (ts : List TableParts) → numbered_types number (map listed_of (at_number n table (flush_table file last) ts)) ≡ numbered_types number (map listed_of ts)
-types_flushed file last n table number [] = refl
-types_flushed file last n table number (t ∷ ts) =
-    let after : Tables = numbered_types (suc number) (map listed_of (at_number (suc n) table (flush_table file last) ts)) in
+types_flushed : (file part last n table number : ℕ) (ts : List TableParts) → numbered_types number (map listed_of (at_number n table (flush_table file part last) ts)) ≡ numbered_types number (map listed_of ts)
+types_flushed file part last n table number [] = refl
+types_flushed file part last n table number (t ∷ ts) =
+    let after : Tables = numbered_types (suc number) (map listed_of (at_number (suc n) table (flush_table file part last) ts)) in
     let before : Tables = numbered_types (suc number) (map listed_of ts) in
-    let rest : after ≡ before = types_flushed file last (suc n) table (suc number) ts in
+    let rest : after ≡ before = types_flushed file part last (suc n) table (suc number) ts in
     let own : Option (ℕ × List ColumnType) = option_map (λ (types : List ColumnType). (number, types)) (column_types t.definition) in
-    elim (nat_eq n table) as (λ b. cons_option (option_map (λ (types : List ColumnType). (number, types)) (column_types (listed_of (cond b (flush_table file last t) t)).definition)) after ≡ cons_option own before) [
+    elim (nat_eq n table) as (λ b. cons_option (option_map (λ (types : List ColumnType). (number, types)) (column_types (listed_of (cond b (flush_table file part last t) t)).definition)) after ≡ cons_option own before) [
       | true ↦ ap (λ (l : Tables). cons_option own l) rest
       | false ↦ ap (λ (l : Tables). cons_option own l) rest
     ]
@@ -86,8 +87,8 @@ types_flushed file last n table number (t ∷ ts) =
 -- ---- the folder
 
 module _ (x y : Folder) (l : Layout) (table : ℕ) (logs : List (List Mutation)) (has : HasShape x (bare l) logs) (others : (name : FileName) → name ≢ manifest_name l.used.manifest → get y name ≡ get x name) where
-  flush_data : (number : ℕ) → get y (data_name number) ≡ get x (data_name number)
-  flush_data number = others (data_name number) (kinds_apart _ _ (omega arith))
+  flush_data : SameFiles x y
+  flush_data name file = others name (kinds_apart _ _ (omega (arith, file)))
 
   flush_logs : (number : ℕ) → get y (log_name number) ≡ get x (log_name number)
   flush_logs number = others (log_name number) (kinds_apart _ _ (omega arith))
@@ -118,10 +119,10 @@ module _ (x y : Folder) (l : Layout) (table : ℕ) (logs : List (List Mutation))
       let left : next + length (drop k logs) ≡ suc l.last = omega (arith, live, raised, below, length-drop k logs) in
       bare_shape y (after_flush table l) (listing_of (after_flush table l)) (logs_after table l logs) refl flush_sealed (bytes, there, later)
       (omega (arith, left, length-append (drop k logs) ([] ∷ [])))
-      (subst (λ (ts : Tables). HasSegments y ts next (drop k logs ++ [] ∷ [])) (sym (types_flushed (suc l.used.«data») (suc l.last) 1 table 1 l.tables))
+      (subst (λ (ts : Tables). HasSegments y ts next (drop k logs ++ [] ∷ [])) (sym (types_flushed (suc l.used.«data») l.used.part (suc l.last) 1 table 1 l.tables))
       (segments_join y types next (drop k logs) [] (subst (λ i. HasSegments y types i (drop k logs)) (sym raised) (segments_dropped y types l.floor k logs flush_segments))
       (subst (λ n. HasSegment y types n []) (sym left) (new.bytes, flush_logs (suc l.last) ∙ new.segment, record { gated = new.empty; of_tables = tt }))))
-      (flushed_shaped x y l.partitioner l.floor next k table (suc l.used.«data») (suc l.last) logs raised (omega (arith, left)) flush_data 1 l.tables (need_floor 1 table (suc l.last) l.tables) new.file has.tables)
+      (flushed_shaped x y l.partitioner l.floor next k table (suc l.used.«data») l.used.part (suc l.last) logs raised (omega (arith, left)) flush_data 1 l.tables (need_floor 1 table (suc l.last) l.tables) new.file has.tables)
 
 -- At each moment of the append to the manifest the folder has the shape from before, or that after the flush.
 pub flush_appended : (x y : Folder) (l : Layout) (table : ℕ) (logs : List (List Mutation)) → HasShape x (bare l) logs → HasNew table l x → FileChange (manifest_name l.used.manifest) (LeftWith (ListsEither l (after_flush table l))) x y

@@ -18,7 +18,7 @@ use Rattle.sasi_model.specs.Abbreviations.{Partitions}
 use Rattle.sasi_manifest.specs.ListedDefinition.{ListedDefinition}
 use Rattle.sasi_manifest.proofs.Replacing.{unchanged}
 use Rattle.sasi_layout.specs.Layout.{File, Layout, TableParts, bare, bare_table, listed_of, listing_of, state_of, table_of, unflushed}
-use Rattle.sasi_layout.specs.Moves.{Create, Define, Flush, Freeze, Move, Put, IsLegal, AreLegal, after_create, after_define, define_table, after_flush, after_freeze, after_moves, after_put, flush_table, flushed_file, freeze_table, moved, moved_state, new_parts, put_table, states}
+use Rattle.sasi_layout.specs.Moves.{Create, Define, Flush, Freeze, Move, Put, AreLegal, after_create, after_define, define_table, after_flush, after_freeze, after_moves, after_put, flush_table, flushed_file, freeze_table, moved, moved_state, new_parts, put_table, states}
 use Rattle.sasi_layout.specs.NumbersInOrder.{HasNumbersInOrder}
 use Rattle.sasi_layout.proofs.MovesInOrder.{moved_in_order}
 use Rattle.sasi_layout.proofs.Numbered.{seen_at, seen_twice, unseen_at}
@@ -69,16 +69,16 @@ freeze_state table l = ap (λ (ts : List Table). record { partitioner = l.partit
 
 -- ---- a flush
 
-flush_seen : (number last : ℕ) (t : TableParts) → table_of (flush_table number last t) ≡ table_of t
-flush_seen number last t =
+flush_seen : (number part last : ℕ) (t : TableParts) → table_of (flush_table number part last t) ≡ table_of t
+flush_seen number part last t =
     let files : List Partitions = map (λ (f : File). f.holds) t.files in
     ap (λ (k : Partitions). record { definition = t.definition; partitions = k }) (
-    ap (λ (l : List Partitions). merged (l ++ map_.empty ∷ [])) (map-append (λ (f : File). f.holds) t.files (flushed_file number t ∷ []))
+    ap (λ (l : List Partitions). merged (l ++ map_.empty ∷ [])) (map-append (λ (f : File). f.holds) t.files (flushed_file number part t ∷ []))
     ∙ sym (replaced_last map_.empty files (unflushed t)))
 
 -- A flush leaves the state.
 pub flush_state : (table : ℕ) (l : Layout) → state_of (after_flush table l) ≡ state_of l
-flush_state table l = ap (λ (ts : List Table). record { partitioner = l.partitioner; tables = ts }) (unseen_at table_of (flush_table (suc l.used.«data») (suc l.last)) (flush_seen (suc l.used.«data») (suc l.last)) 1 table l.tables)
+flush_state table l = ap (λ (ts : List Table). record { partitioner = l.partitioner; tables = ts }) (unseen_at table_of (flush_table (suc l.used.«data») l.used.part (suc l.last)) (flush_seen (suc l.used.«data») l.used.part (suc l.last)) 1 table l.tables)
 
 -- ---- a new table
 

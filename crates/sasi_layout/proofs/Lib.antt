@@ -21,7 +21,10 @@ pub mod OneContent
 pub mod OneShape
 pub mod StatementLaws
 pub mod Defines
+pub mod FileNameLaws
 pub mod KeptLaws
+pub mod KeptOn
+pub mod Parts
 pub mod TimeLaws
 pub mod Fewer
 pub mod Orders

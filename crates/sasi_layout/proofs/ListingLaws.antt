@@ -1,5 +1,5 @@
 -- What the moves make of the listing: a flush is one record that puts a file behind the others, and a create is one that creates a table.
-use Rattle.std.specs.Prelude.{◌≡◌, ◌<◌, ◌≤◌, ℕ, suc, false, cond, nat_le, List, [], ◌∷◌, ◌++◌, map, Some, refl}
+use Rattle.std.specs.Prelude.{◌≡◌, ◌<◌, ◌≤◌, ℕ, suc, true, false, cond, nat_eq, nat_le, List, [], ◌∷◌, ◌++◌, map, Some, refl}
 use Rattle.std.proofs.Common.{sym, ap, ◌∙◌, arith}
 use Rattle.std.proofs.lemmas.Bool.Decides.{nat_tests}
 use Rattle.std.proofs.lemmas.List.{map-append}
@@ -11,10 +11,14 @@ use Rattle.sasi_manifest.specs.ListedDefinition.{ListedDefinition}
 use Rattle.sasi_manifest.specs.ListedFiles.{with_file, without}
 use Rattle.sasi_manifest.specs.Format.{IsNext}
 use Rattle.sasi_manifest.specs.Listings.{at_number, replaced}
-use Rattle.sasi_layout.specs.Layout.{File, Layout, TableParts, listed_of, listing_of}
-use Rattle.sasi_layout.specs.Moves.{after_create, after_flush, after_freeze, after_put, create_edits, flush_edits, flush_table, flushed_file, freeze_table, new_listed_file, new_parts, put_table}
+use Rattle.sasi_layout.specs.Layout.{File, Layout, TableParts, listed_of, listing_of, numbered}
+use Rattle.sasi_layout.specs.Moves.{after_create, after_flush, after_freeze, after_put, create_edits, flush_edits, flush_table, flushed_file, flush_parts, freeze_table, new_listed_file, new_parts, parts_drawn, put_table}
 use Rattle.sasi_layout.specs.NumbersInOrder.{HasFilesInOrder, HasNumbersInOrder, Rising}
-use Rattle.sasi_layout.proofs.Numbered.{seen_where, unseen_at}
+use Rattle.std.specs.List.{AllByRecursion}
+use Rattle.std.specs.Option.{option_map_or}
+use Rattle.sasi_manifest.specs.declared.files.PartNumber.{PartNumber}
+use Rattle.sasi_manifest.proofs.Replacing.{At}
+use Rattle.sasi_layout.proofs.Numbered.{at_past, seen_of_it, unseen_at}
 
 -- the listing of a layout with other tables
 abbrev with_tables : Layout → List ListedDefinition → Listing
@@ -47,17 +51,33 @@ put_last f low high (g ∷ gs) rise above =
     let other : nat_le f.number g.number ≡ false = grind (arith, nat_tests, less) in
     ap (λ b. cond b (f ∷ g ∷ gs) (g ∷ with_file f gs)) other ∙ ap (λ (l : List ListedFile). g ∷ l) (put_last f g.number high gs rise.1 above)
 
-flush_listed : (high last : ℕ) (t : TableParts) → HasFilesInOrder high last (listed_of t) → listed_of (flush_table (suc high) (suc last) t) ≡ replaced [] (new_listed_file (suc high) ∷ []) (suc last) (listed_of t)
-flush_listed high last t in_order =
+-- the table that is flushed is in order, and draws these parts
+abbrev Draws : ℕ → ℕ → ℕ → List PartNumber → TableParts → Type 0
+Draws high last part parts t = HasFilesInOrder high last (listed_of t) × (parts_drawn part t ≡ parts)
+
+flush_listed : (high last part : ℕ) (parts : List PartNumber) (t : TableParts) → Draws high last part parts t → listed_of (flush_table (suc high) part (suc last) t) ≡ replaced [] (new_listed_file (suc high) parts ∷ []) (suc last) (listed_of t)
+flush_listed high last part parts t draws =
     let files : List ListedFile = map (λ (f : File). f.listed) t.files in
     ap (λ (fs : List ListedFile). record (listed_of t) { since = suc last; files = fs }) (
-    map-append (λ (f : File). f.listed) t.files (flushed_file (suc high) t ∷ [])
-    ∙ sym (put_last (new_listed_file (suc high)) 0 high files in_order.rise (omega arith))
-    ∙ ap (with_file (new_listed_file (suc high))) (sym (none_away files)))
+    map-append (λ (f : File). f.listed) t.files (flushed_file (suc high) part t ∷ [])
+    ∙ ap (λ (ps : List PartNumber). files ++ new_listed_file (suc high) ps ∷ []) draws.1
+    ∙ sym (put_last (new_listed_file (suc high) parts) 0 high files draws.0.rise (omega arith))
+    ∙ ap (with_file (new_listed_file (suc high) parts)) (sym (none_away files)))
+
+-- the parts that the table of the number draws
+draws_at : (high last part n table : ℕ) (ts : List TableParts) → AllByRecursion (HasFilesInOrder high last) (map listed_of ts) → At n table (Draws high last part (option_map_or (parts_drawn part) (numbered n table ts) [])) ts
+draws_at high last part n table [] in_order = tt
+draws_at high last part n table (t ∷ ts) in_order =
+    let rest = draws_at high last part (suc n) table ts in_order.1 in
+    elim (nat_eq n table) as (λ b. nat_eq n table ≡ b → (b ≡ true → Draws high last part (option_map_or (parts_drawn part) (cond b (Some t) (numbered (suc n) table ts)) []) t) × At (suc n) table (Draws high last part (option_map_or (parts_drawn part) (cond b (Some t) (numbered (suc n) table ts)) [])) ts) [
+      | true ↦ λ own. (λ is. (in_order.0, refl), at_past (suc n) table _ ts (let same : n ≡ table = grind (arith, nat_tests, own) in omega (arith, same)))
+      | false ↦ λ other. (λ is. cc, rest)
+    ] refl
 
 -- what is listed of the tables after a flush
-pub flushed_tables : (table : ℕ) (l : Layout) → HasNumbersInOrder l → (listing_of (after_flush table l)).tables ≡ at_number 1 table (replaced [] (new_listed_file (suc l.used.«data») ∷ []) (suc l.last)) (listing_of l).tables
-flushed_tables table l in_order = seen_where listed_of (flush_table (suc l.used.«data») (suc l.last)) (HasFilesInOrder l.used.«data» l.last) (replaced [] (new_listed_file (suc l.used.«data») ∷ []) (suc l.last)) (flush_listed l.used.«data» l.last) 1 table l.tables in_order.files
+pub flushed_tables : (table : ℕ) (l : Layout) → HasNumbersInOrder l → (listing_of (after_flush table l)).tables ≡ at_number 1 table (replaced [] (new_listed_file (suc l.used.«data») (flush_parts table l) ∷ []) (suc l.last)) (listing_of l).tables
+flushed_tables table l in_order = seen_of_it listed_of (flush_table (suc l.used.«data») l.used.part (suc l.last)) (Draws l.used.«data» l.last l.used.part (flush_parts table l)) (replaced [] (new_listed_file (suc l.used.«data») (flush_parts table l) ∷ []) (suc l.last))
+    (flush_listed l.used.«data» l.last l.used.part (flush_parts table l)) 1 table l.tables (draws_at l.used.«data» l.last l.used.part 1 table l.tables in_order.files)
 
 -- A flush is one record of the manifest.
 pub flush_is_next : (table : ℕ) (l : Layout) → HasNumbersInOrder l → IsNext (listing_of l) (flush_edits table l) (listing_of (after_flush table l))

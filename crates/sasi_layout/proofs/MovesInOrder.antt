@@ -51,24 +51,24 @@ unlisted_in_order l table f same in_order =
       indexes = subst (AllByRecursion (HasIndexesNumbered l.used.index)) (sym listed) in_order.indexes;
     }
 
-flush_files : (high last : ℕ) (t : TableParts) → HasFilesInOrder high last (listed_of t) → HasFilesInOrder (suc high) (suc last) (listed_of (flush_table (suc high) (suc last) t))
-flush_files high last t is = record {
-  rise = subst (Rising 0 (suc high)) (sym (map-append (λ (f : File). f.listed) t.files (flushed_file (suc high) t ∷ []))) (rising_push 0 high (map (λ (f : File). f.listed) t.files) (record { number = suc high; parts = [] }) is.rise refl);
+flush_files : (high part last : ℕ) (t : TableParts) → HasFilesInOrder high last (listed_of t) → HasFilesInOrder (suc high) (suc last) (listed_of (flush_table (suc high) part (suc last) t))
+flush_files high part last t is = record {
+  rise = subst (Rising 0 (suc high)) (sym (map-append (λ (f : File). f.listed) t.files (flushed_file (suc high) part t ∷ []))) (rising_push 0 high (map (λ (f : File). f.listed) t.files) (flushed_file (suc high) part t).listed is.rise refl);
   since = omega arith;
 }
 
 flush_in_order : (table : ℕ) (l : Layout) → HasNumbersInOrder l → HasNumbersInOrder (after_flush table l)
 flush_in_order table l in_order =
     let high : ℕ = l.used.«data» in
-    let flushed = at_number 1 table (flush_table (suc high) (suc l.last)) l.tables in
+    let flushed = at_number 1 table (flush_table (suc high) l.used.part (suc l.last)) l.tables in
     record {
       files = of_parts (HasFilesInOrder (suc high) (suc l.last)) flushed
-          (all_changed (λ t. HasFilesInOrder high l.last (listed_of t)) (λ t. HasFilesInOrder (suc high) (suc l.last) (listed_of t)) (flush_table (suc high) (suc l.last))
-          (λ t is. flush_files high l.last t is)
+          (all_changed (λ t. HasFilesInOrder high l.last (listed_of t)) (λ t. HasFilesInOrder (suc high) (suc l.last) (listed_of t)) (flush_table (suc high) l.used.part (suc l.last))
+          (λ t is. flush_files high l.used.part l.last t is)
           (λ t is. record { rise = rising_higher 0 high (suc high) (map (λ (f : File). f.listed) t.files) (omega arith) is.rise; since = omega (arith, is.since) })
           1 table l.tables (to_parts (HasFilesInOrder high l.last) l.tables in_order.files));
       indexes = of_parts (HasIndexesNumbered l.used.index) flushed
-          (all_changed (λ t. HasIndexesNumbered l.used.index (listed_of t)) (λ t. HasIndexesNumbered l.used.index (listed_of t)) (flush_table (suc high) (suc l.last))
+          (all_changed (λ t. HasIndexesNumbered l.used.index (listed_of t)) (λ t. HasIndexesNumbered l.used.index (listed_of t)) (flush_table (suc high) l.used.part (suc l.last))
           (λ t is. record { counted = is.counted; within = is.within }) (λ t is. is) 1 table l.tables (to_parts (HasIndexesNumbered l.used.index) l.tables in_order.indexes));
     }
 

@@ -15,30 +15,34 @@ use Rattle.sasi_manifest.specs.declared.listing.Listing.{Listing}
 use Rattle.sasi_folder.proofs.FolderChanges.{all_both}
 use Rattle.sasi_layout.proofs.Contents.{has_written}
 use Rattle.sasi_layout.proofs.Storable.{merged_storable, entries_storable}
-use Rattle.sasi_layout.specs.Flushed.{IsWritten, HasFlushed}
+use Rattle.sasi_layout.specs.Flushed.{IsWritten, HasFlushed, contents_of}
 use Rattle.sasi_layout.specs.Layout.{Layout, TableParts, unflushed}
-use Rattle.sasi_layout.specs.Moves.{flushed_file}
+use Rattle.sasi_layout.specs.Moves.{flushed_file, parts_drawn}
 use Rattle.sasi_layout.specs.Serving.{AreStorable, AreTablesReady, TableInMemory, StoreInMemory, CanChange, Serves, table_in_memory}
-use Rattle.sasi_layout.specs.Shape.{HasFile}
+use Rattle.sasi_layout.specs.Shape.{HasFile, HasIndexFile}
 
 -- what isn't flushed of the table can be stored in it
 abbrev pub CanFlush : Partitioner → TableParts → Type 0
 CanFlush p t = AreStorable p (types_of t.definition) (merged (unflushed t))
 
-flushed_there : (x : Folder) (p : Partitioner) (file table n : ℕ) (bytes : Bytes) (ts : List TableParts) → get x (data_name file) ≡ Some bytes → length bytes ≤ 2 ^ 62 → At n table (CanFlush p) ts → At n table (IsWritten p bytes) ts
-    → At n table (λ t. HasFile x p t.definition (flushed_file file t)) ts
-flushed_there x p file table n bytes [] there fits can is = tt
-flushed_there x p file table n bytes (t ∷ ts) there fits can is = (
+-- the index files of what isn't flushed are there
+abbrev pub HasIndexes : Folder → Partitioner → ℕ → ℕ → TableParts → Type 0
+HasIndexes x p file part t = AllByRecursion (HasIndexFile x p t.definition t.numbers file (contents_of (merged (unflushed t)))) (parts_drawn part t)
+
+flushed_there : (x : Folder) (p : Partitioner) (file part table n : ℕ) (bytes : Bytes) (ts : List TableParts) → get x (data_name file) ≡ Some bytes → length bytes ≤ 2 ^ 62 → At n table (CanFlush p) ts → At n table (IsWritten p bytes) ts → At n table (HasIndexes x p file part) ts
+    → At n table (λ t. HasFile x p t.definition t.numbers (flushed_file file part t)) ts
+flushed_there x p file part table n bytes [] there fits can is indexes = tt
+flushed_there x p file part table n bytes (t ∷ ts) there fits can is indexes = (
   (λ own.
       let written = is.0 own in
-      has_written x p t.definition (flushed_file file t) (record { some = written.some; storable = entries_storable p (types_of t.definition) (merged (unflushed t)) (can.0 own) })
-      (there ∙ ap (λ (b : Bytes). Some b) written.bytes_are) (subst (λ (b : Bytes). length b ≤ 2 ^ 62) written.bytes_are fits)),
-  flushed_there x p file table (suc n) bytes ts there fits can.1 is.1,
+      has_written x p t.definition t.numbers (flushed_file file part t) (record { some = written.some; storable = entries_storable p (types_of t.definition) (merged (unflushed t)) (can.0 own) })
+      (there ∙ ap (λ (b : Bytes). Some b) written.bytes_are) (subst (λ (b : Bytes). length b ≤ 2 ^ 62) written.bytes_are fits) (indexes.0 own)),
+  flushed_there x p file part table (suc n) bytes ts there fits can.1 is.1 indexes.1,
 )
 
 -- Once each image has the bytes that are written of what isn't flushed, each has the file of the flush.
-pub flushed_each : (l : Layout) (table : ℕ) (bytes : Bytes) (v : View) → At 1 table (CanFlush l.partitioner) l.tables → At 1 table (IsWritten l.partitioner bytes) l.tables → IsFileDurable v (data_name (suc l.used.«data»)) bytes → length bytes ≤ 2 ^ 62 → Each v (HasFlushed table l)
-flushed_each l table bytes v can is kept fits x now = flushed_there x l.partitioner (suc l.used.«data») table 1 bytes l.tables (kept x now) fits can is
+pub flushed_each : (l : Layout) (table : ℕ) (bytes : Bytes) (v : View) → At 1 table (CanFlush l.partitioner) l.tables → At 1 table (IsWritten l.partitioner bytes) l.tables → IsFileDurable v (data_name (suc l.used.«data»)) bytes → length bytes ≤ 2 ^ 62 → Each v (λ x. At 1 table (HasIndexes x l.partitioner (suc l.used.«data») l.used.part) l.tables) → Each v (HasFlushed table l)
+flushed_each l table bytes v can is kept fits indexes x now = flushed_there x l.partitioner (suc l.used.«data») l.used.part table 1 bytes l.tables (kept x now) fits can is (indexes x now)
 
 -- ---- what a store in memory can flush
 

@@ -1,6 +1,7 @@
 -- Laws of a list after a change of the item with one number.
-use Rattle.std.specs.Prelude.{◌≡◌, ℕ, suc, true, false, cond, nat_eq, List, [], ◌∷◌, map, refl}
-use Rattle.std.proofs.Common.{ap}
+use Rattle.std.specs.Prelude.{◌≡◌, ◌<◌, ℕ, suc, true, false, cond, nat_eq, List, [], ◌∷◌, map, refl}
+use Rattle.std.proofs.Common.{ap, arith}
+use Rattle.std.proofs.lemmas.Bool.Decides.{nat_tests}
 use Rattle.std.specs.List.{AllByRecursion}
 use Rattle.sasi_manifest.specs.Listings.{at_number}
 use Rattle.sasi_manifest.proofs.Replacing.{At}
@@ -59,3 +60,8 @@ all_changed P Q f changed kept n number (x ∷ xs) all =
       | true ↦ (changed x all.0, rest)
       | false ↦ (kept x all.0, rest)
     ]
+
+-- behind the number there is no item of it
+pub at_past : {A : Type 0} (n number : ℕ) (P : A → Type 0) (xs : List A) → number < n → At n number P xs
+at_past n number P [] past = tt
+at_past n number P (x ∷ xs) past = (λ own. (let same : n ≡ number = grind (arith, nat_tests, own) in absurd (omega (arith, same, past))), at_past (suc n) number P xs (omega (arith, past)))

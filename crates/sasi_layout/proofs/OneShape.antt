@@ -29,23 +29,23 @@ one_value : (a b : Bytes) (o : Option Bytes) → o ≡ Some a → o ≡ Some b �
 one_value a b o first second = let e : Some a ≡ Some b = sym first ∙ second in cc
 
 module _ (x : Folder) (p : Partitioner) where
-  file_same : (d : Definition) (f g : File) → f.listed ≡ g.listed → HasFile x p d f → HasFile x p d g → f ≡ g
-  file_same d f g listed first second =
+  file_same : (d : Definition) (ns : List ℕ) (f g : File) → f.listed ≡ g.listed → HasFile x p d ns f → HasFile x p d ns g → f ≡ g
+  file_same d ns f g listed first second =
       let there : get x (data_name g.listed.number) ≡ Some first.bytes = ap (λ (l : ListedFile). get x (data_name l.number)) (sym listed) ∙ first.there in
       let bytes : second.bytes ≡ first.bytes = one_value second.bytes first.bytes (get x (data_name g.listed.number)) second.there there in
       let content : first.content ≡ second.content = one_content p (types_of d) first.bytes first.content second.content first.fits first.data_file (subst (λ (l : Bytes). IsDataFile p (types_of d) l second.content) bytes second.data_file) in
       let holds : f.holds ≡ g.holds = first.holds ∙ ap (map_of p) content ∙ sym second.holds in
       λ i. record { listed = listed i; holds = holds i }
 
-  files_same : (d : Definition) (fs gs : List File) → map (λ (f : File). f.listed) fs ≡ map (λ (f : File). f.listed) gs → AllByRecursion (HasFile x p d) fs → AllByRecursion (HasFile x p d) gs → fs ≡ gs
-  files_same d [] [] listed first second = refl
-  files_same d [] (g ∷ gs) listed first second = cc
-  files_same d (f ∷ fs) [] listed first second = cc
-  files_same d (f ∷ fs) (g ∷ gs) listed first second =
+  files_same : (d : Definition) (ns : List ℕ) (fs gs : List File) → map (λ (f : File). f.listed) fs ≡ map (λ (f : File). f.listed) gs → AllByRecursion (HasFile x p d ns) fs → AllByRecursion (HasFile x p d ns) gs → fs ≡ gs
+  files_same d ns [] [] listed first second = refl
+  files_same d ns [] (g ∷ gs) listed first second = cc
+  files_same d ns (f ∷ fs) [] listed first second = cc
+  files_same d ns (f ∷ fs) (g ∷ gs) listed first second =
       let head : f.listed ≡ g.listed = cc in
       let tail : map (λ (f : File). f.listed) fs ≡ map (λ (f : File). f.listed) gs = cc in
-      let here : f ≡ g = file_same d f g head first.0 second.0 in
-      let rest : fs ≡ gs = files_same d fs gs tail first.1 second.1 in
+      let here : f ≡ g = file_same d ns f g head first.0 second.0 in
+      let rest : fs ≡ gs = files_same d ns fs gs tail first.1 second.1 in
       λ i. here i ∷ rest i
 
   table_same : (floor n : ℕ) (logs : List (List Mutation)) (t u : TableParts) → listed_of t ≡ listed_of u → IsShaped x p floor n logs t → IsShaped x p floor n logs u → t ≡ u
@@ -53,8 +53,9 @@ module _ (x : Folder) (p : Partitioner) where
       let definition : t.definition ≡ u.definition = ap (λ (l : ListedDefinition). l.definition) listed in
       let numbers : t.numbers ≡ u.numbers = ap (λ (l : ListedDefinition). l.numbers) listed in
       let since : t.since ≡ u.since = ap (λ (l : ListedDefinition). l.since) listed in
-      let there : AllByRecursion (HasFile x p t.definition) u.files = subst (λ (d : Definition). AllByRecursion (HasFile x p d) u.files) (sym definition) second.files in
-      let files : t.files ≡ u.files = files_same t.definition t.files u.files (ap (λ (l : ListedDefinition). l.files) listed) first.files there in
+      let there : AllByRecursion (HasFile x p t.definition t.numbers) u.files =
+      subst (λ (d : Definition). AllByRecursion (HasFile x p d t.numbers) u.files) (sym definition) (subst (λ (ns : List ℕ). AllByRecursion (HasFile x p u.definition ns) u.files) (sym numbers) second.files) in
+      let files : t.files ≡ u.files = files_same t.definition t.numbers t.files u.files (ap (λ (l : ListedDefinition). l.files) listed) first.files there in
       let frozen : t.frozen ≡ u.frozen = first.idle ∙ sym second.idle in
       let memtable : t.memtable ≡ u.memtable = first.memtable ∙ ap (λ s. replay p n s floor map_.empty logs) since ∙ sym second.memtable in
       let least : t.first ≡ u.first = first.first ∙ ap (λ s. first_in n s floor logs) since ∙ sym second.first in

@@ -13,7 +13,7 @@ use Rattle.sasi_cells.proofs.Laws.Maps.{put_merged}
 use Rattle.sasi_cells.specs.Maps.{put}
 use Rattle.sasi_cells.specs.declared.mutation.Mutation.{Mutation}
 use Rattle.sasi_host.specs.Disk.{FileChange, LeftWith}
-use Rattle.sasi_host.specs.Names.{Bytes, Folder, log_name, manifest_name, seal_name, data_name}
+use Rattle.sasi_host.specs.Names.{Bytes, Folder, log_name, manifest_name, seal_name}
 use Rattle.sasi_host.specs.declared.name.FileName.{FileName}
 use Rattle.sasi_gated.specs.Format.{IsGated}
 use Rattle.sasi_commitlog.specs.Format.{IsMutationOf, Tables, payload_of}
@@ -28,6 +28,7 @@ use Rattle.sasi_folder.specs.FolderContents.{HasSegment, HasSegments, IsSealed}
 use Rattle.sasi_layout.proofs.LayoutLaws.{bare_listing}
 use Rattle.sasi_layout.proofs.ListingLaws.{put_listing}
 use Rattle.sasi_layout.proofs.Replaying.{first_other, first_own, replay_other, replay_own}
+use Rattle.sasi_layout.specs.Frames.{SameFiles}
 use Rattle.sasi_layout.proofs.ShapeLaws.{all_agree, bare_shape, files_kept, bare_idle, shaped_kept}
 use Rattle.sasi_layout.specs.Layout.{Layout, TableParts, bare, bare_table, listing_of}
 use Rattle.sasi_layout.specs.Moves.{after_put, put_table, or_else}
@@ -35,7 +36,7 @@ use Rattle.sasi_layout.specs.Shape.{IsShaped, AreShaped, HasShape}
 
 -- ---- tables
 
-module _ (x y : Folder) (p : Partitioner) (floor last : ℕ) (older : List (List Mutation)) (current : List Mutation) (m : Mutation) (end : floor + length older ≡ last) (same : (number : ℕ) → get y (data_name number) ≡ get x (data_name number)) where
+module _ (x y : Folder) (p : Partitioner) (floor last : ℕ) (older : List (List Mutation)) (current : List Mutation) (m : Mutation) (end : floor + length older ≡ last) (same : SameFiles x y) where
   put_shaped : (n : ℕ) (t : TableParts) → t.since ≤ last → IsShaped x p floor n (older ++ current ∷ []) (bare_table t) → IsShaped y p floor n (older ++ (current ++ m ∷ []) ∷ []) (bare_table (cond (nat_eq n m.table) (put_table p last m t) t))
   put_shaped n t since is =
       elim (nat_eq n m.table) as (λ b. nat_eq n m.table ≡ b → IsShaped y p floor n (older ++ (current ++ m ∷ []) ∷ []) (bare_table (cond b (put_table p last m t) t))) [
@@ -43,7 +44,7 @@ module _ (x y : Folder) (p : Partitioner) (floor last : ℕ) (older : List (List
             let taken : nat_le t.since last ≡ true = grind (arith, nat_tests) in
             let mine : nat_eq m.table n ≡ true = grind (arith, nat_tests) in
             record {
-              files = files_kept x y p t.definition t.files (all_agree x y same t.files) is.files;
+              files = files_kept x y p t.definition t.numbers t.files (all_agree x y same t.files) is.files;
               idle = bare_idle t;
               memtable =
                   put_merged map_.empty t.frozen t.memtable (decorated p m.key) m.change
@@ -54,7 +55,7 @@ module _ (x y : Folder) (p : Partitioner) (floor last : ℕ) (older : List (List
         | false ↦ λ other.
             let others : nat_eq m.table n ≡ false = grind (arith, nat_tests) in
             record {
-              files = files_kept x y p t.definition t.files (all_agree x y same t.files) is.files;
+              files = files_kept x y p t.definition t.numbers t.files (all_agree x y same t.files) is.files;
               idle = bare_idle t;
               memtable = is.memtable ∙ sym (replay_other p n t.since floor older current m last end map_.empty others);
               first = is.first ∙ sym (first_other p n t.since floor older current m last end others);
@@ -104,8 +105,8 @@ module _ (x y : Folder) (l : Layout) (older : List (List Mutation)) (current : L
   same_size : length (older ++ (current ++ m ∷ []) ∷ []) ≡ length (older ++ current ∷ [])
   same_size = omega (arith, length-append older (current ∷ []), length-append older ((current ++ m ∷ []) ∷ []))
 
-  put_data : (number : ℕ) → get y (data_name number) ≡ get x (data_name number)
-  put_data number = others (data_name number) (kinds_apart _ _ (omega arith))
+  put_data : SameFiles x y
+  put_data name file = others name (kinds_apart _ _ (omega (arith, file)))
 
   put_sealed : IsSealed y l.used.manifest
   put_sealed = sealed_kept x y l.used.manifest (λ n. others (seal_name n) (kinds_apart _ _ (omega arith))) has.sealed

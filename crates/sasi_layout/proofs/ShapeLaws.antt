@@ -7,43 +7,58 @@ use Rattle.sasi_types.specs.declared.partitioner.Partitioner.{Partitioner}
 use Rattle.sasi_model.specs.State.{Definition}
 use Rattle.sasi_cells.specs.declared.mutation.Mutation.{Mutation}
 use Rattle.sasi_host.specs.Names.{Bytes, Folder, manifest_name, data_name}
+use Rattle.sasi_datawrite.specs.Format.{Content}
+use Rattle.sasi_manifest.specs.declared.files.PartNumber.{PartNumber}
 use Rattle.sasi_manifest.specs.Format.{IsManifest}
 use Rattle.sasi_manifest.specs.Types.{numbered_types}
 use Rattle.sasi_manifest.specs.declared.listing.Listing.{Listing}
 use Rattle.sasi_folder.proofs.FolderLaws.{sealed_kept, segments_kept}
 use Rattle.sasi_folder.specs.FolderContents.{HasSegments, IsSealed}
 use Rattle.sasi_layout.proofs.LayoutLaws.{bare_listing}
-use Rattle.sasi_layout.specs.Frames.{AgreeOn}
+use Rattle.sasi_manifest.specs.ListedFiles.{index_name}
+use Rattle.sasi_layout.specs.Frames.{AgreeOn, AgreeOnFiles, AgreeOnTables, AreAlike, SameFiles}
 use Rattle.sasi_layout.specs.Layout.{File, IsIdle, Layout, TableParts, bare, bare_table, listing_of, used_in}
-use Rattle.sasi_layout.specs.Shape.{HasFile, AreShaped, HasShape}
+use Rattle.sasi_layout.specs.Shape.{HasFile, HasIndexFile, AreShaped, HasShape}
 
 -- ---- other files don't matter
 
-pub files_kept : (x y : Folder) (p : Partitioner) (d : Definition) (fs : List File) → AllByRecursion (λ (f : File). get y (data_name f.listed.number) ≡ get x (data_name f.listed.number)) fs → AllByRecursion (HasFile x p d) fs → AllByRecursion (HasFile y p d) fs
-files_kept x y p d [] same has = tt
-files_kept x y p d (f ∷ fs) same has = (
-  record { bytes = has.0.bytes; content = has.0.content; there = same.0 ∙ has.0.there; data_file = has.0.data_file; fits = has.0.fits; keys = has.0.keys; holds = has.0.holds },
-  files_kept x y p d fs same.1 has.1,
+parts_kept : (x y : Folder) (p : Partitioner) (d : Definition) (ns : List ℕ) (number : ℕ) (content : Content) (ps : List PartNumber) → AreAlike x y (map (index_name number) ps) → AllByRecursion (HasIndexFile x p d ns number content) ps → AllByRecursion (HasIndexFile y p d ns number content) ps
+parts_kept x y p d ns number content [] same has = tt
+parts_kept x y p d ns number content (part ∷ ps) same has = (
+  record { index = has.0.index; defined = has.0.defined; bytes = has.0.bytes; there = same.0 ∙ has.0.there; stands = has.0.stands; fits = has.0.fits },
+  parts_kept x y p d ns number content ps same.1 has.1,
 )
 
-pub all_agree : (x y : Folder) → ((number : ℕ) → get y (data_name number) ≡ get x (data_name number)) → (fs : List File) → AllByRecursion (λ (f : File). get y (data_name f.listed.number) ≡ get x (data_name f.listed.number)) fs
-all_agree x y same [] = tt
-all_agree x y same (f ∷ fs) = (same f.listed.number, all_agree x y same fs)
+pub files_kept : (x y : Folder) (p : Partitioner) (d : Definition) (ns : List ℕ) (fs : List File) → AgreeOnFiles x y fs → AllByRecursion (HasFile x p d ns) fs → AllByRecursion (HasFile y p d ns) fs
+files_kept x y p d ns [] same has = tt
+files_kept x y p d ns (f ∷ fs) same has = (
+  record { bytes = has.0.bytes; content = has.0.content; there = same.0.0 ∙ has.0.there; data_file = has.0.data_file; fits = has.0.fits; keys = has.0.keys; holds = has.0.holds; indexes = parts_kept x y p d ns f.listed.number has.0.content f.listed.parts same.0.1 has.0.indexes },
+  files_kept x y p d ns fs same.1 has.1,
+)
 
-tables_kept : (x y : Folder) (p : Partitioner) (floor number : ℕ) (logs : List (List Mutation)) (ts : List TableParts) → AllByRecursion (λ (t : TableParts). AllByRecursion (λ (f : File). get y (data_name f.listed.number) ≡ get x (data_name f.listed.number)) t.files) ts
+parts_agree : (x y : Folder) → SameFiles x y → (number : ℕ) (ps : List PartNumber) → AreAlike x y (map (index_name number) ps)
+parts_agree x y same number [] = tt
+parts_agree x y same number (p ∷ ps) = (same (index_name number p) (omega arith), parts_agree x y same number ps)
+
+pub all_agree : (x y : Folder) → SameFiles x y → (fs : List File) → AgreeOnFiles x y fs
+all_agree x y same [] = tt
+all_agree x y same (f ∷ fs) = ((same (data_name f.listed.number) (omega arith), parts_agree x y same f.listed.number f.listed.parts), all_agree x y same fs)
+
+-- where the files of the tables are the same
+pub tables_kept : (x y : Folder) (p : Partitioner) (floor number : ℕ) (logs : List (List Mutation)) (ts : List TableParts) → AgreeOnTables x y ts
     → AreShaped x p floor number logs ts → AreShaped y p floor number logs ts
 tables_kept x y p floor number logs [] same are = tt
 tables_kept x y p floor number logs (t ∷ ts) same are = (
-  record { files = files_kept x y p t.definition t.files same.0 are.0.files; idle = are.0.idle; memtable = are.0.memtable; first = are.0.first },
+  record { files = files_kept x y p t.definition t.numbers t.files same.0 are.0.files; idle = are.0.idle; memtable = are.0.memtable; first = are.0.first },
   tables_kept x y p floor (suc number) logs ts same.1 are.1,
 )
 
-pub tables_agree : (x y : Folder) → ((number : ℕ) → get y (data_name number) ≡ get x (data_name number)) → (ts : List TableParts) → AllByRecursion (λ (t : TableParts). AllByRecursion (λ (f : File). get y (data_name f.listed.number) ≡ get x (data_name f.listed.number)) t.files) ts
+pub tables_agree : (x y : Folder) → SameFiles x y → (ts : List TableParts) → AgreeOnTables x y ts
 tables_agree x y same [] = tt
 tables_agree x y same (t ∷ ts) = (all_agree x y same t.files, tables_agree x y same ts)
 
--- where all data files are the same
-pub shaped_kept : (x y : Folder) (p : Partitioner) (floor number : ℕ) (logs : List (List Mutation)) (ts : List TableParts) → ((number : ℕ) → get y (data_name number) ≡ get x (data_name number)) → AreShaped x p floor number logs ts → AreShaped y p floor number logs ts
+-- where all files that tables can have are the same
+pub shaped_kept : (x y : Folder) (p : Partitioner) (floor number : ℕ) (logs : List (List Mutation)) (ts : List TableParts) → SameFiles x y → AreShaped x p floor number logs ts → AreShaped y p floor number logs ts
 shaped_kept x y p floor number logs ts same are = tables_kept x y p floor number logs ts (tables_agree x y same ts) are
 
 -- No other file matters.

@@ -1,12 +1,10 @@
 -- The files that belong to a store, by their names alone: a store in memory knows them without reading the folder.
-use Rattle.std.specs.Prelude.{◌≡◌, ◌&&◌, ◌||◌, ℕ, Bool, nat_le, List, is_some}
+use Rattle.std.specs.Prelude.{◌≡◌, ◌&&◌, ◌||◌, ℕ, Bool, nat_le, is_some}
 use Rattle.std.specs.FinMap.{get}
-use Rattle.std.specs.List.{list_any}
 use Rattle.sasi_host.specs.declared.name.FileName.{FileName}
-use Rattle.sasi_host.specs.Names.{Folder, data_name, log_name, manifest_name, name_eq, seal_name}
+use Rattle.sasi_host.specs.Names.{Folder, log_name, manifest_name, name_eq, seal_name}
 use Rattle.sasi_manifest.specs.declared.listing.Listing.{Listing}
-use Rattle.sasi_manifest.specs.ListedDefinition.{ListedDefinition}
-use Rattle.sasi_manifest.specs.ListedFiles.{has_file}
+use Rattle.sasi_manifest.specs.FileNames.{has_name}
 use Rattle.sasi_layout.specs.Layout.{Layout, listing_of}
 
 -- what tells which files are kept: the number of the sealed manifest, and what it lists
@@ -18,17 +16,9 @@ pub record Kept : Type 0 where
 abbrev pub has_segment : ℕ → ℕ → FileName → Bool
 has_segment floor last name = name_eq name (log_name name.number) && (nat_le floor name.number && nat_le name.number last)
 
--- one of the tables has the data file of this number
-abbrev pub is_listed : List ListedDefinition → ℕ → Bool
-is_listed tables number = list_any (λ t. has_file t.files number) tables
-
--- the data file that is listed under its number
-abbrev pub has_data : List ListedDefinition → FileName → Bool
-has_data tables name = name_eq name (data_name name.number) && is_listed tables name.number
-
--- the manifest, its seal, a live segment of the log, or a listed data file
+-- the manifest, its seal, a live segment of the log, or a file that a table has
 abbrev pub is_kept : Kept → FileName → Bool
-is_kept k name = name_eq name (manifest_name k.manifest) || (name_eq name (seal_name k.manifest) || (has_segment k.listing.floor k.listing.last name || has_data k.listing.tables name))
+is_kept k name = name_eq name (manifest_name k.manifest) || (name_eq name (seal_name k.manifest) || (has_segment k.listing.floor k.listing.last name || has_name k.listing.tables name))
 
 abbrev pub kept_of : Layout → Kept
 kept_of l = record { manifest = l.used.manifest; listing = listing_of l }

@@ -1,13 +1,20 @@
 -- What a store holds, part by part: in files that the manifest lists, and in maps that aren't in a file yet.
-use Rattle.std.specs.Prelude.{◌≡◌, ℕ, suc, max, nat_eq, if◌then◌else◌, List, [], ◌∷◌, ◌++◌, map, Option, None, Some}
+use Rattle.std.specs.Prelude.{◌≡◌, ℕ, suc, max, nat_eq, Bool, true, false, if◌then◌else◌, List, [], ◌∷◌, ◌++◌, map, Option, None, Some}
+use Rattle.std.specs.List.{filter, zip}
+use Rattle.std.specs.Ordering.{nat_cmp}
+use Rattle.sasi_types.specs.declared.mode.Mode.{Mode}
+use Rattle.sasi_types.specs.declared.mode.Mode.TheVariants.{Prefix, Contains, Sparse}
 use Rattle.sasi_types.specs.declared.partitioner.Partitioner.{Partitioner}
 use Rattle.sasi_cells.specs.Maps.{merged}
-use Rattle.sasi_model.specs.State.{Definition, State, Table}
+use Rattle.sasi_model.specs.State.{Definition, Index, State, Table}
 use Rattle.sasi_model.specs.Abbreviations.{Partitions}
 use Rattle.sasi_manifest.specs.declared.files.ListedFile.{ListedFile}
+use Rattle.sasi_manifest.specs.declared.files.PartNumber.{PartNumber}
 use Rattle.sasi_manifest.specs.declared.listing.Listing.{Listing}
+use Rattle.sasi_manifest.specs.FileNames.{largest_part}
 use Rattle.sasi_manifest.specs.ListedDefinition.{ListedDefinition}
 use Rattle.sasi_manifest.specs.Listings.{largest_index}
+use Rattle.sasi_segments.specs.Sorting.{sort}
 
 -- ---- a layout
 
@@ -56,6 +63,27 @@ abbrev pub numbered : {A : Type 0} → ℕ → ℕ → List A → Option A
 numbered n number [] = None
 numbered n number (x ∷ xs) = if nat_eq n number then Some x else numbered (suc n) number xs
 
+-- ---- indexes
+
+-- a flush writes the index file of an index of this mode; those of the other modes aren't built yet
+abbrev pub is_built : Mode → Bool
+is_built Prefix = true
+is_built Contains = false
+is_built Sparse = false
+
+-- the indexes with their numbers
+abbrev pub numbered_indexes : TableParts → List (ℕ × Index)
+numbered_indexes t = zip t.numbers t.definition.indexes
+
+-- the numbers of those of which a flush writes a file, rising
+abbrev pub built_numbers : TableParts → List ℕ
+built_numbers t = sort nat_cmp (map (λ (n : ℕ × Index). n.0) (filter (λ (n : ℕ × Index). is_built n.1.mode) (numbered_indexes t)))
+
+-- a part of each index of these numbers, in their order, after the last used one
+abbrev pub drawn : ℕ → List ℕ → List PartNumber
+drawn used [] = []
+drawn used (n ∷ ns) = record { index = n; part = suc used } ∷ drawn (suc used) ns
+
 -- ---- what the manifest lists of it
 
 abbrev pub listed_of : TableParts → ListedDefinition
@@ -93,7 +121,7 @@ largest_data (t ∷ ts) = max (largest_file t.files) (largest_data ts)
 
 -- the largest numbers that are listed, under the manifest of this number
 abbrev pub used_in : ℕ → Listing → Used
-used_in manifest listing = record { manifest = manifest; log = listing.last; «data» = largest_data listing.tables; index = largest_index listing.tables; part = 0 }
+used_in manifest listing = record { manifest = manifest; log = listing.last; «data» = largest_data listing.tables; index = largest_index listing.tables; part = largest_part listing.tables }
 
 -- no map is frozen
 abbrev pub IsIdle : TableParts → Type 0

@@ -13,9 +13,10 @@ use Rattle.sasi_model.specs.State.{Definition, Index, State, decorated, with_ind
 use Rattle.sasi_manifest.specs.declared.edit.Edit.{Edit}
 use Rattle.sasi_manifest.specs.declared.edit.Edit.TheVariants.{CreateTable, Replace}
 use Rattle.sasi_manifest.specs.declared.files.ListedFile.{ListedFile}
+use Rattle.sasi_manifest.specs.declared.files.PartNumber.{PartNumber}
 use Rattle.sasi_manifest.specs.Edits.{encoded}
 use Rattle.sasi_manifest.specs.Listings.{index_edit}
-use Rattle.sasi_layout.specs.Layout.{File, Layout, TableParts, numbered, unflushed}
+use Rattle.sasi_layout.specs.Layout.{File, Layout, TableParts, built_numbers, drawn, numbered, unflushed}
 
 -- the first, and else the second
 abbrev pub or_else : Option ℕ → Option ℕ → Option ℕ
@@ -42,16 +43,24 @@ after_freeze table l = record l { tables = at_number 1 table freeze_table l.tabl
 
 -- ---- flush
 
--- the file of a flush, as the manifest lists it
-abbrev pub new_listed_file : ℕ → ListedFile
-new_listed_file number = record { number = number; parts = [] }
+-- the file of a flush, as the manifest lists it, with these parts of indexes
+abbrev pub new_listed_file : ℕ → List PartNumber → ListedFile
+new_listed_file number parts = record { number = number; parts = parts }
+
+-- the parts that a flush of the table draws after the last used one: one for each index whose file it writes, in the order of their numbers
+abbrev pub parts_drawn : ℕ → TableParts → List PartNumber
+parts_drawn part t = drawn part (built_numbers t)
+
+-- those that a flush of the table with this number draws
+abbrev pub flush_parts : ℕ → Layout → List PartNumber
+flush_parts table l = option_map_or (parts_drawn l.used.part) (numbered 1 table l.tables) []
 
 -- the file of what isn't flushed
-abbrev pub flushed_file : ℕ → TableParts → File
-flushed_file number t = record { listed = new_listed_file number; holds = merged (unflushed t) }
+abbrev pub flushed_file : ℕ → ℕ → TableParts → File
+flushed_file number part t = record { listed = new_listed_file number (parts_drawn part t); holds = merged (unflushed t) }
 
-abbrev pub flush_table : ℕ → ℕ → TableParts → TableParts
-flush_table number last t = record t { since = last; first = None; files = t.files ++ flushed_file number t ∷ []; frozen = []; memtable = map_.empty }
+abbrev pub flush_table : ℕ → ℕ → ℕ → TableParts → TableParts
+flush_table number part last t = record t { since = last; first = None; files = t.files ++ flushed_file number part t ∷ []; frozen = []; memtable = map_.empty }
 
 -- the lesser of two segments, if there is one
 abbrev pub lesser : Option ℕ → ℕ → ℕ
@@ -69,17 +78,17 @@ next_floor table l = floor_without 1 table (suc l.last) l.tables
 
 -- the manifest's record of it
 abbrev pub flush_edits : ℕ → Layout → List Edit
-flush_edits table l = Replace table [] (new_listed_file (suc l.used.«data») ∷ []) (suc l.last) (next_floor table l) (suc l.last) ∷ []
+flush_edits table l = Replace table [] (new_listed_file (suc l.used.«data») (flush_parts table l) ∷ []) (suc l.last) (next_floor table l) (suc l.last) ∷ []
 
--- All that isn't flushed of the table becomes a file of the next data number, and the log goes on in its next segment.
+-- All that isn't flushed of the table becomes a file of the next data number, with index files of the next parts, and the log goes on in its next segment.
 abbrev pub after_flush : ℕ → Layout → Layout
 after_flush table l = record l {
   floor = next_floor table l;
   last = suc l.last;
   records = l.records + 1;
   length = l.length + (5 + length (encoded (flush_edits table l)));
-  tables = at_number 1 table (flush_table (suc l.used.«data») (suc l.last)) l.tables;
-  used = record l.used { log = suc l.last; «data» = suc l.used.«data» };
+  tables = at_number 1 table (flush_table (suc l.used.«data») l.used.part (suc l.last)) l.tables;
+  used = record l.used { log = suc l.last; «data» = suc l.used.«data»; part = l.used.part + length (flush_parts table l) };
 }
 
 -- ---- create

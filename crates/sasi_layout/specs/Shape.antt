@@ -1,20 +1,23 @@
 -- The layout that the files of a folder show, and the state for which a folder stands.
-use Rattle.std.specs.Prelude.{◌≡◌, ◌⊎◌, ◌&&◌, ◌||◌, ◌+◌, ◌^◌, ◌≤◌, ℕ, suc, Bool, false, nat_eq, nat_le, if◌then◌else◌, List, [], ◌∷◌, length, map, Option, None, Some, unwrap_or, ⊤}
+use Rattle.std.specs.Prelude.{◌≡◌, ◌⊎◌, ◌&&◌, ◌||◌, ◌+◌, ◌^◌, ◌≤◌, ℕ, suc, Bool, false, nat_eq, nat_le, if◌then◌else◌, List, [], ◌∷◌, length, map, Contains, Option, None, Some, unwrap_or, ⊤}
 use Rattle.std.specs.FinMap as map_
 use Rattle.std.specs.FinMap.{get}
-use Rattle.std.specs.List.{AllByRecursion}
+use Rattle.std.specs.List.{AllByRecursion, zip}
 use Rattle.sasi_types.specs.declared.partitioner.Partitioner.{Partitioner}
 use Rattle.sasi_types.specs.declared.partitioner.Partitioner.TheVariants.{Lead8}
 use Rattle.sasi_types.specs.Token.{AreBytes}
 use Rattle.sasi_host.specs.Names.{Bytes, Folder, data_name, manifest_name}
 use Rattle.sasi_model.specs.Abbreviations.{Partitions, types_of}
-use Rattle.sasi_model.specs.State.{Definition, State, decorated}
+use Rattle.sasi_model.specs.State.{Definition, Index, State, decorated}
 use Rattle.sasi_cells.specs.Maps.{put}
 use Rattle.sasi_cells.specs.declared.mutation.Mutation.{Mutation}
 use Rattle.sasi_datawrite.specs.Files.{IsDataFile}
 use Rattle.sasi_datawrite.specs.Format.{Content}
+use Rattle.sasi_manifest.specs.declared.files.PartNumber.{PartNumber}
 use Rattle.sasi_manifest.specs.Format.{IsManifest}
+use Rattle.sasi_manifest.specs.ListedFiles.{index_name}
 use Rattle.sasi_manifest.specs.Types.{numbered_types}
+use Rattle.sasi_postings.specs.IndexFiles.{StandsForIndex}
 use Rattle.sasi_folder.specs.FolderContents.{HasSegments, IsFresh, IsSealed}
 use Rattle.sasi_layout.specs.Layout.{File, IsIdle, Layout, TableParts, listing_of, state_of, used_in}
 
@@ -24,8 +27,17 @@ use Rattle.sasi_layout.specs.Layout.{File, IsIdle, Layout, TableParts, listing_o
 abbrev pub map_of : Partitioner → Content → Partitions
 map_of partitioner content = map_.from_entries (map (λ one. (decorated partitioner one.0, one.1)) content)
 
--- the folder has the data file, and it has these partitions
-pub record HasFile (folder : Folder) (partitioner : Partitioner) (definition : Definition) (file : File) : Type 0 where
+-- the folder has the index file of this part, which goes with the data file of this number and content: it is that of one of the table's indexes, under its number
+pub record HasIndexFile (folder : Folder) (partitioner : Partitioner) (definition : Definition) (numbers : List ℕ) (number : ℕ) (content : Content) (p : PartNumber) : Type 0 where
+  pub index : Index
+  pub defined : Contains (zip numbers definition.indexes) (p.index, index)
+  pub bytes : Bytes
+  pub there : get folder (index_name number p) ≡ Some bytes
+  pub stands : StandsForIndex partitioner definition index content bytes
+  pub fits : length bytes ≤ 2 ^ 62
+
+-- the folder has the data file, and it has these partitions; with it, it has the index file of each part that is listed
+pub record HasFile (folder : Folder) (partitioner : Partitioner) (definition : Definition) (numbers : List ℕ) (file : File) : Type 0 where
   pub bytes : Bytes
   pub content : Content
   pub there : get folder (data_name file.listed.number) ≡ Some bytes
@@ -33,6 +45,7 @@ pub record HasFile (folder : Folder) (partitioner : Partitioner) (definition : D
   pub fits : length bytes ≤ 2 ^ 62
   pub keys : AllByRecursion (λ one. AreBytes one.0) content
   pub holds : file.holds ≡ map_of partitioner content
+  pub indexes : AllByRecursion (HasIndexFile folder partitioner definition numbers file.listed.number content) file.listed.parts
 
 -- ---- replay
 
@@ -60,7 +73,7 @@ first_in table since n (ms ∷ logs) = if nat_le since n && has_mutation table m
 
 -- the table's files are there, and its memtable is what the live segments have of it
 pub record IsShaped (folder : Folder) (partitioner : Partitioner) (floor number : ℕ) (logs : List (List Mutation)) (t : TableParts) : Type 0 where
-  pub files : AllByRecursion (HasFile folder partitioner t.definition) t.files
+  pub files : AllByRecursion (HasFile folder partitioner t.definition t.numbers) t.files
   pub idle : IsIdle t
   pub memtable : t.memtable ≡ replay partitioner number t.since floor map_.empty logs
   pub first : t.first ≡ first_in number t.since floor logs

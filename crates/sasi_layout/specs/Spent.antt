@@ -1,15 +1,21 @@
 -- Numbers that are spent: each has 32 bits.
-use Rattle.std.specs.Prelude.{ℕ, ◌-◌, ◌^◌, nat_eq, if◌then◌else◌, List, [], ◌∷◌, Option, None, Some}
+use Rattle.std.specs.Prelude.{ℕ, ◌-◌, ◌^◌, nat_eq, if◌then◌else◌, List, [], ◌∷◌, ◌++◌, suc, Option, None, Some}
 use Rattle.sasi_layout.specs.declared.number_kind.NumberKind.{NumberKind}
 use Rattle.sasi_layout.specs.declared.number_kind.NumberKind.TheVariants as kinds
+use Rattle.sasi_manifest.specs.declared.files.PartNumber.{PartNumber}
 use Rattle.sasi_layout.specs.Layout.{Layout}
-use Rattle.sasi_layout.specs.Moves.{Create, Define, Flush, Freeze, Move, Put, moved}
+use Rattle.sasi_layout.specs.Moves.{Create, Define, Flush, Freeze, Move, Put, flush_parts, moved}
+
+-- a number is drawn for each of the parts, one after another; this is the last used one before
+abbrev pub part_draws : ℕ → List PartNumber → List (NumberKind × ℕ)
+part_draws used [] = []
+part_draws used (p ∷ parts) = (kinds.Part, used) ∷ part_draws (suc used) parts
 
 -- the kinds of which a move draws the next number, in this order, with the last used one
 abbrev pub draws : Layout → Move → List (NumberKind × ℕ)
 draws l (Put m) = []
 draws l (Freeze table) = []
-draws l (Flush table) = (kinds.Data, l.used.«data») ∷ (kinds.Log, l.used.log) ∷ []
+draws l (Flush table) = (kinds.Data, l.used.«data») ∷ (part_draws l.used.part (flush_parts table l) ++ (kinds.Log, l.used.log) ∷ [])
 draws l (Create d) = []
 draws l (Define table index) = (kinds.Index, l.used.index) ∷ []
 

@@ -1,36 +1,32 @@
 -- When an edit applies.
-use Rattle.std.proofs.Common.{◌≡◌, ◌<◌, ◌≤◌, ◌+◌, ◌^◌, ◌-◌, ℕ, suc, Bool, true, false, not, ◌&&◌, List, [], ◌∷◌, ◌++◌, length, min, Option, None, Some, refl, sym, ap, ◌∙◌, subst, arith, rules}
+use Rattle.std.proofs.Common.{◌≡◌, ◌<◌, ◌≤◌, ◌+◌, ◌^◌, ◌-◌, ℕ, suc, Bool, true, false, not, List, [], ◌∷◌, ◌++◌, length, min, Option, None, Some, refl, sym, subst, arith, rules}
 use Rattle.std.specs.Int.{w8, w16, w32}
-use Rattle.std.specs.Prelude.{◌==◌, ◌||◌, nat_lt, nat_le}
+use Rattle.std.specs.Prelude.{◌||◌, nat_lt, nat_le}
 use Rattle.std.proofs.lemmas.Bool.Decides.{nat_tests}
 use Rattle.std.proofs.lemmas.List.{map-append}
-use Rattle.std.specs.List.{AllByRecursion, list_any, list_all}
-use Rattle.sasi_types.specs.declared.column.ColumnType.{ColumnType}
-use Rattle.sasi_types.specs.declared.column.ColumnType.TheVariants as types
+use Rattle.std.specs.List.{AllByRecursion}
 use Rattle.sasi_types.specs.declared.partitioner.Partitioner.{Partitioner}
 use Rattle.sasi_types.specs.declared.partitioner.Partitioner.TheVariants.{Lead8, Murmur3}
 use Rattle.sasi_host.specs.Names.{Bytes}
 use Rattle.sasi_host.specs.declared.damage.FormatRule.TheVariants as rule
 use Rattle.sasi_model.specs.State.{Column}
 use Rattle.sasi_model.specs.Refusals.{names_in}
-use Rattle.sasi_model.specs.Statements.{same}
-use Rattle.sasi_model.specs.Tokens.{is_word_byte}
 use Rattle.sasi_formats.specs.Formats.{Format, Fits, Then, fit_items}
-use Rattle.sasi_formats.specs.Codings.{when_is}
 use Rattle.sasi_formats.specs.Fields.{◌&◌, number, in_range}
-use Rattle.sasi_formats.proofs.Fitting.{both_true, when_true, number_fits, fits_number, checked_fits, fits_checked, range_fits, fits_range}
+use Rattle.sasi_formats.proofs.Fitting.{number_fits, fits_number, checked_fits, fits_checked, range_fits, fits_range}
 use Rattle.sasi_manifest.specs.declared.edit.Edit.{Edit}
 use Rattle.sasi_manifest.specs.declared.edit.Edit.TheVariants.{Start, CreateTable, CreateIndex, Replace}
 use Rattle.sasi_manifest.specs.declared.files.ListedFile.{ListedFile}
-use Rattle.sasi_manifest.specs.declared.files.PartNumber.{PartNumber}
 use Rattle.sasi_manifest.specs.declared.listing.Listing.{Listing}
-use Rattle.sasi_manifest.specs.Edits.{is_later_tag, name, type, partitioner, shape, edit, replace, Applies, are_within, files_of, is_current, is_last, is_new, last_segment, later_tag, live_segments, new_file_format, new_files, parts, removed_number, removed_numbers}
+use Rattle.sasi_manifest.specs.Edits.{is_later_tag, partitioner, shape, edit, replace, Applies, are_within, files_of, is_current, is_last, is_new, last_segment, later_tag, live_segments, new_file_format, new_files, numbers_at, removed_number, removed_numbers}
 use Rattle.sasi_manifest.specs.ListedDefinition.{ListedDefinition}
-use Rattle.sasi_manifest.specs.Abbreviations.{column, is_open_name, listed_names}
+use Rattle.sasi_manifest.specs.Abbreviations.{column, listed_names}
 use Rattle.sasi_manifest.specs.Listings.{CanStart, FitsWidths}
 use Rattle.sasi_manifest.specs.Naming.{IsName, IsFree, AreNames, AreApart}
 use Rattle.sasi_manifest.proofs.Defining.{applies_index, no_index}
-use Rattle.sasi_manifest.proofs.NameFits.{FitsName, fits_name, open_name_fits, type_fits}
+use Rattle.sasi_manifest.specs.ListedFiles.{FitParts}
+use Rattle.sasi_manifest.proofs.PartLaws.{fits_parts, parts_fit}
+use Rattle.sasi_manifest.proofs.NameFits.{fits_name, open_name_fits, type_fits}
 
 partitioner_fits : (p : Partitioner) → Fits partitioner p
 partitioner_fits Lead8 = (number_fits w8 0 (omega arith), refl)
@@ -155,43 +151,35 @@ applies_create listing table title columns position since h =
 
 -- ---- files in the place of others
 
--- no index is defined, so a file has no part
-parts_none : (parts_are : List PartNumber) → Fits parts parts_are → parts_are ≡ []
-parts_none [] h = refl
-parts_none (p ∷ ps) h = (let no : false ≡ true = (fits_checked rule.Number 4 (λ _. false) (number w32) p.index h.1.0.0.0).1 in cc)
-
-none_fit : Fits parts []
-none_fit = (number_fits w16 0 (omega arith), tt)
-
--- files whose numbers are new, one after another
-pub record IsNewFile (tables : List ListedDefinition) (removed : List ℕ) (before : List ListedFile) (f : ListedFile) : Type 0 where
+-- files of a table whose numbers are new, one after another
+pub record IsNewFile (tables : List ListedDefinition) (table : ℕ) (removed : List ℕ) (before : List ListedFile) (f : ListedFile) : Type 0 where
   pub some : 1 ≤ f.number
   pub number_fits : f.number < 2 ^ 32
   pub free : is_new tables removed before f.number ≡ true
-  pub no_parts : f.parts ≡ []
+  pub parts : FitParts (numbers_at tables table) f.parts
 
-abbrev pub AreNewFiles : List ListedDefinition → List ℕ → List ListedFile → List ListedFile → Type 0
-AreNewFiles tables removed before [] = Unit {0}
-AreNewFiles tables removed before (f ∷ fs) = IsNewFile tables removed before f × AreNewFiles tables removed (before ++ f ∷ []) fs
+abbrev pub AreNewFiles : List ListedDefinition → ℕ → List ℕ → List ListedFile → List ListedFile → Type 0
+AreNewFiles tables table removed before [] = Unit {0}
+AreNewFiles tables table removed before (f ∷ fs) = IsNewFile tables table removed before f × AreNewFiles tables table removed (before ++ f ∷ []) fs
 
-file_fits : (tables : List ListedDefinition) (removed : List ℕ) (before : List ListedFile) (f : ListedFile) → IsNewFile tables removed before f → Fits (new_file_format tables removed before) f
-file_fits tables removed before f is =
+file_fits : (tables : List ListedDefinition) (table : ℕ) (removed : List ℕ) (before : List ListedFile) (f : ListedFile) → IsNewFile tables table removed before f → Fits (new_file_format tables table removed before) f
+file_fits tables table removed before f is =
     let segment = range_fits w32 1 (2 ^ 32 - 1) f.number is.number_fits is.some (omega (arith, is.number_fits)) in
-    ((checked_fits rule.Number 4 (is_new tables removed before) (in_range w32 1 (2 ^ 32 - 1)) f.number segment is.free, subst (λ (ps : List PartNumber). Fits parts ps) (sym is.no_parts) none_fit), refl)
+    ((checked_fits rule.Number 4 (is_new tables removed before) (in_range w32 1 (2 ^ 32 - 1)) f.number segment is.free, parts_fit (numbers_at tables table) f.parts is.parts), refl)
 
-fits_file : (tables : List ListedDefinition) (removed : List ℕ) (before : List ListedFile) (f : ListedFile) → Fits (new_file_format tables removed before) f → IsNewFile tables removed before f
-fits_file tables removed before f h =
+fits_file : (tables : List ListedDefinition) (table : ℕ) (removed : List ℕ) (before : List ListedFile) (f : ListedFile) → Fits (new_file_format tables table removed before) f → IsNewFile tables table removed before f
+fits_file tables table removed before f h =
     let named = fits_checked rule.Number 4 (is_new tables removed before) (in_range w32 1 (2 ^ 32 - 1)) f.number h.0.0 in
     let range = fits_range w32 1 (2 ^ 32 - 1) f.number named.0 in
-    record { some = range.above; number_fits = range.fits; free = named.1; no_parts = parts_none f.parts h.0.1 }
+    record { some = range.above; number_fits = range.fits; free = named.1; parts = fits_parts (numbers_at tables table) f.parts h.0.1 }
 
-files_fit : (tables : List ListedDefinition) (removed : List ℕ) (before fs : List ListedFile) → AreNewFiles tables removed before fs → fit_items (λ before. Fits (new_file_format tables removed before)) before fs
-files_fit tables removed before [] all = tt
-files_fit tables removed before (f ∷ fs) all = (file_fits tables removed before f all.0, files_fit tables removed (before ++ f ∷ []) fs all.1)
+files_fit : (tables : List ListedDefinition) (table : ℕ) (removed : List ℕ) (before fs : List ListedFile) → AreNewFiles tables table removed before fs → fit_items (λ before. Fits (new_file_format tables table removed before)) before fs
+files_fit tables table removed before [] all = tt
+files_fit tables table removed before (f ∷ fs) all = (file_fits tables table removed before f all.0, files_fit tables table removed (before ++ f ∷ []) fs all.1)
 
-fit_files : (tables : List ListedDefinition) (removed : List ℕ) (before fs : List ListedFile) → fit_items (λ before. Fits (new_file_format tables removed before)) before fs → AreNewFiles tables removed before fs
-fit_files tables removed before [] h = tt
-fit_files tables removed before (f ∷ fs) h = (fits_file tables removed before f h.0, fit_files tables removed (before ++ f ∷ []) fs h.1)
+fit_files : (tables : List ListedDefinition) (table : ℕ) (removed : List ℕ) (before fs : List ListedFile) → fit_items (λ before. Fits (new_file_format tables table removed before)) before fs → AreNewFiles tables table removed before fs
+fit_files tables table removed before [] h = tt
+fit_files tables table removed before (f ∷ fs) h = (fits_file tables table removed before f h.0, fit_files tables table removed (before ++ f ∷ []) fs h.1)
 
 -- numbers of files of the table, each once
 abbrev pub AreCurrent : List ListedFile → List ℕ → List ℕ → Type 0
@@ -216,7 +204,7 @@ pub record CanReplace (listing : Listing) (table : ℕ) (removed : List ℕ) (ad
   pub few_removed : length removed < 2 ^ 32
   pub current : AreCurrent (files_of listing.tables table) [] removed
   pub few_added : length added < 2 ^ 32
-  pub new : AreNewFiles listing.tables removed [] added
+  pub new : AreNewFiles listing.tables table removed [] added
   pub since_some : 1 ≤ since
   pub since_within : since ≤ last
   pub floor_some : 1 ≤ floor
@@ -253,7 +241,7 @@ replace_applies listing table removed added since floor last can =
     let segments_are = checked_fits rule.Number 4 (λ s. nat_le s.0 s.1.1) all (since, (floor, last))
     (segment since can.since_some (omega (arith, can.since_within, can.last_fits)), live_is) since_within in
     let numbers : Fits (removed_numbers (files_of tables table)) removed = (number_fits w32 (length removed) can.few_removed, numbers_fit (files_of tables table) [] removed can.current) in
-    let files_are : Fits (new_files tables removed) added = (number_fits w32 (length added) can.few_added, files_fit tables removed [] added can.new) in
+    let files_are : Fits (new_files tables table removed) added = (number_fits w32 (length added) can.few_added, files_fit tables table removed [] added can.new) in
     ((later_fits 5 (omega arith) refl, ((range_fits w32 1 (length tables) table can.table_fits can.some can.within, ((numbers, files_are), segments_are)), refl)), refl)
 
 pub applies_replace : (listing : Listing) (table : ℕ) (removed : List ℕ) (added : List ListedFile) (since floor last : ℕ) → Applies (Some listing) (Replace table removed added since floor last) → CanReplace listing table removed added since floor last
@@ -282,7 +270,7 @@ applies_replace listing table removed added since floor last h =
       few_removed = fits_number w32 (length removed) fields.1.0.0.0;
       current = fit_numbers (files_of tables table) [] removed fields.1.0.0.1;
       few_added = fits_number w32 (length added) fields.1.0.1.0;
-      new = fit_files tables removed [] added fields.1.0.1.1;
+      new = fit_files tables table removed [] added fields.1.0.1.1;
       since_some = since_is.above;
       since_within = since_within;
       floor_some = floor_is.above;
@@ -291,9 +279,9 @@ applies_replace listing table removed added since floor last h =
       others = not_first (nat_lt last floor) (are_within last table 1 tables) (not_first (nat_lt last since) (nat_lt last floor || are_within last table 1 tables) last_is.1 not_before) not_below;
     }
 
-no_parts_few : (tables : List ListedDefinition) (removed : List ℕ) (before fs : List ListedFile) → AreNewFiles tables removed before fs → AllByRecursion (λ f. length f.parts < 2 ^ 16) fs
-no_parts_few tables removed before [] all = tt
-no_parts_few tables removed before (f ∷ fs) all = (omega (arith, ap length all.0.no_parts), no_parts_few tables removed (before ++ f ∷ []) fs all.1)
+few_parts : (tables : List ListedDefinition) (table : ℕ) (removed : List ℕ) (before fs : List ListedFile) → AreNewFiles tables table removed before fs → AllByRecursion (λ f. length f.parts < 2 ^ 16) fs
+few_parts tables table removed before [] all = tt
+few_parts tables table removed before (f ∷ fs) all = (all.0.parts.few, few_parts tables table removed (before ++ f ∷ []) fs all.1)
 
 -- an edit that applies can be written
 pub writable : (from : Option Listing) (e : Edit) → Applies from e → FitsWidths e
@@ -307,4 +295,4 @@ writable (Some listing) (CreateIndex def fold) h = (let can = applies_index list
 writable None (Replace table removed added since floor last) h = absurd (no_replace table removed added since floor last h)
 writable (Some listing) (Replace table removed added since floor last) h =
     let can = applies_replace listing table removed added since floor last h in
-    (can.few_removed, can.few_added, no_parts_few listing.tables removed [] added can.new)
+    (can.few_removed, can.few_added, few_parts listing.tables table removed [] added can.new)

@@ -13,11 +13,11 @@ use Rattle.sasi_manifest.specs.ListedDefinition.{ListedDefinition}
 use Rattle.sasi_manifest.specs.Edits.{AllApply, Applies}
 use Rattle.sasi_manifest.specs.Listings.{after, after_all, replaced, with_record_counted}
 use Rattle.sasi_manifest.specs.Abbreviations.{created_table}
-use Rattle.sasi_manifest.specs.Consistent.{ConsistentIf, FilesRise, HasIndexes, IsConsistent}
+use Rattle.sasi_manifest.specs.Consistent.{ConsistentIf, FilesRise, HasIndexes, HasParts, IsConsistent}
 use Rattle.sasi_manifest.specs.ListedFiles.{has_file}
 use Rattle.sasi_manifest.proofs.Applying.{applies_create, applies_replace, applies_start, no_create, no_replace, no_start}
 use Rattle.sasi_manifest.proofs.Defining.{applies_index, no_index}
-use Rattle.sasi_manifest.proofs.IndexLaws.{define_consistent, names_kept, names_push, parts_push, parts_same}
+use Rattle.sasi_manifest.proofs.IndexLaws.{define_consistent, names_kept, names_push, parts_push, parts_replaced, parts_same}
 use Rattle.sasi_manifest.proofs.Replacing.{all_at, apart_replaced, files_replaced, since_replaced}
 use Rattle.sasi_manifest.proofs.Records.{ApplyInTurn, in_turn, record_applies}
 use Rattle.sasi_formats.proofs.EncodingsAgree.{encodes_of}
@@ -28,7 +28,7 @@ all_both P [] ys first second = second
 all_both P (x ∷ xs) ys first second = (first.0, all_both P xs ys first.1 second)
 
 edit_consistent : (from : Option Listing) (edit : Edit) → Applies from edit → ConsistentIf from → ConsistentIf (after from edit)
-edit_consistent None (Start p floor last) applies known = record { start = applies_start p floor last applies; since = tt; files = tt; apart = λ n. omega arith; indexes = tt; numbers = λ n. omega arith; names = λ name. omega arith }
+edit_consistent None (Start p floor last) applies known = record { start = applies_start p floor last applies; since = tt; files = tt; apart = λ n. omega arith; parts = tt; indexes = tt; numbers = λ n. omega arith; names = λ name. omega arith }
 edit_consistent None (CreateTable number name columns key since) applies known = absurd (no_create number name columns key since applies)
 edit_consistent None (CreateIndex def fold) applies known = absurd (no_index def fold applies)
 edit_consistent (Some listing) (Start p floor last) applies known = absurd (no_start listing p floor last applies)
@@ -39,7 +39,8 @@ edit_consistent (Some listing) (CreateTable number name columns key since) appli
       since = all_both (λ (t : ListedDefinition). t.since ≤ listing.last) listing.tables _ known.since (can.since_within, tt);
       files = all_both (λ (t : ListedDefinition). FilesRise 0 t.files) listing.tables _ known.files (tt, tt);
       apart = λ n. omega (arith, known.apart n, sum_by_push (λ (t : ListedDefinition). cond (has_file t.files n) 1 0) listing.tables (created_table name columns key since));
-      indexes = all_both HasIndexes listing.tables _ known.indexes (record { counted = refl; columns = λ column. omega arith }, tt);
+      parts = all_both HasParts listing.tables _ known.parts (tt, tt);
+      indexes = all_both HasIndexes listing.tables _ known.indexes (record { counted = refl; numbered = tt; regular = tt; typed = tt; columns = λ column. omega arith }, tt);
       numbers = λ n. subst (λ (l : List ℕ). count_by (nat_eq n) l ≤ 1) (sym (parts_push (λ t. t.numbers) listing.tables (created_table name columns key since) refl)) (known.numbers n);
       names = λ other. subst (λ (l : List Bytes). count_by (same other) l ≤ 1) (sym (names_push listing.tables (created_table name columns key since) refl)) (known.names other);
     }
@@ -52,7 +53,8 @@ edit_consistent (Some listing) (Replace table removed added since floor last) ap
       since = since_replaced last table since 1 removed added listing.tables can.others can.since_within;
       files = files_replaced listing.tables table since removed added can.new known.files;
       apart = apart_replaced listing.tables table since removed added can.some can.new can.current known.apart;
-      indexes = all_at HasIndexes HasIndexes (replaced removed added since) (λ t is. record { counted = is.counted; columns = is.columns }) (λ t is. is) 1 table listing.tables known.indexes;
+      parts = parts_replaced listing.tables table since removed added can.some can.new known.parts;
+      indexes = all_at HasIndexes HasIndexes (replaced removed added since) (λ t is. record { counted = is.counted; numbered = is.numbered; regular = is.regular; typed = is.typed; columns = is.columns }) (λ t is. is) 1 table listing.tables known.indexes;
       numbers = λ n. subst (λ (l : List ℕ). count_by (nat_eq n) l ≤ 1) (sym (parts_same (λ t. t.numbers) (replaced removed added since) (λ t. refl) 1 table listing.tables)) (known.numbers n);
       names = λ other. subst (λ (l : List Bytes). count_by (same other) l ≤ 1) (sym (names_kept (replaced removed added since) (λ t. refl) 1 table listing.tables)) (known.names other);
     }
@@ -66,7 +68,7 @@ edits_consistent from es apply known = consistent_in_turn from es (in_turn from 
 
 counted_consistent : (payload : Bytes) (listed : Option Listing) → ConsistentIf listed → ConsistentIf (with_record_counted payload listed)
 counted_consistent payload None known = tt
-counted_consistent payload (Some listing) known = record { start = known.start; since = known.since; files = known.files; apart = known.apart; indexes = known.indexes; numbers = known.numbers; names = known.names }
+counted_consistent payload (Some listing) known = record { start = known.start; since = known.since; files = known.files; apart = known.apart; parts = known.parts; indexes = known.indexes; numbers = known.numbers; names = known.names }
 
 -- a record that applies keeps a listing consistent
 pub record_consistent : (from : Option Listing) (payload : Bytes) (edits : List Edit) (next : Listing) → AllApply from edits

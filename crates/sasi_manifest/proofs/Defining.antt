@@ -1,11 +1,9 @@
 -- When a new index applies.
-use Rattle.std.proofs.Common.{◌≡◌, ◌<◌, ◌≤◌, ◌-◌, ◌^◌, ℕ, Bool, true, false, not, ◌&&◌, List, [], ◌∷◌, length, Option, None, Some, refl, sym, ap, ◌∙◌, arith, rules}
+use Rattle.std.proofs.Common.{◌≡◌, ◌<◌, ◌≤◌, ◌-◌, ◌^◌, Bool, true, false, not, ◌&&◌, length, Option, None, Some, refl, sym, ap, ◌∙◌, arith}
 use Rattle.std.specs.Int.{w8, w16, w32}
-use Rattle.std.specs.Prelude.{◌==◌, ◌||◌, is_some}
-use Rattle.std.specs.List.{list_any}
+use Rattle.std.specs.Prelude.{is_some}
 use Rattle.std.proofs.lemmas.List.{length-map}
 use Rattle.std.proofs.lemmas.Option.{slice_get-get_or, unwrap_or-slice_get}
-use Rattle.sasi_types.specs.Codes.{mode_code}
 use Rattle.sasi_types.specs.declared.column.ColumnType.{ColumnType}
 use Rattle.sasi_types.specs.declared.index_def.IndexDef.{IndexDef}
 use Rattle.sasi_types.specs.declared.mode.Mode.{Mode}
@@ -15,19 +13,19 @@ use Rattle.sasi_types.specs.declared.rule.Rule.TheVariants.{Whole, Words}
 use Rattle.sasi_host.specs.declared.damage.FormatRule.TheVariants as rule
 use Rattle.sasi_model.specs.Abbreviations.{kind_of}
 use Rattle.sasi_model.specs.Indexes.{index_on, is_text, mode_fits}
-use Rattle.sasi_model.specs.State.{Definition, Index}
+use Rattle.sasi_model.specs.State.{Definition}
 use Rattle.sasi_schema.specs.IndexFacts.{IsIndexIn}
 use Rattle.sasi_formats.specs.Fields.{flag, in_range, number}
 use Rattle.sasi_formats.specs.Formats.{Fits}
-use Rattle.sasi_formats.proofs.Fitting.{both_true, number_fits, fits_number, checked_fits, fits_checked, range_fits, fits_range}
+use Rattle.sasi_formats.proofs.Fitting.{both_true, number_fits, checked_fits, fits_checked, range_fits, fits_range}
 use Rattle.sasi_manifest.specs.declared.edit.Edit.TheVariants.{CreateIndex}
 use Rattle.sasi_manifest.specs.declared.listing.Listing.{Listing}
-use Rattle.sasi_manifest.specs.Edits.{Applies, EditFields, analysis, any_mode, create_index, definition_at, edit, folding, index_names, index_number, index_numbers, is_later_tag, is_open_column, is_rule_code, later_tag, mode, new_index_def, on_column, rule_byte, rule_code}
+use Rattle.sasi_manifest.specs.Edits.{Applies, EditFields, analysis, any_mode, create_index, definition_at, edit, folding, index_names, index_numbers, is_later_tag, is_open_column, is_rule_code, new_index_def, on_column, rule_byte, rule_code}
 use Rattle.sasi_manifest.specs.ListedDefinition.{ListedDefinition}
 use Rattle.sasi_manifest.specs.ListedFiles.{is_among}
 use Rattle.sasi_manifest.specs.Listings.{fold_of, index_edit, listed_definitions}
 use Rattle.sasi_manifest.specs.Naming.{IsName, IsFree}
-use Rattle.sasi_manifest.proofs.NameFits.{FitsName, fits_name, not_any, open_name_fits}
+use Rattle.sasi_manifest.proofs.NameFits.{fits_name, not_any, open_name_fits}
 
 -- ---- how a column is indexed
 

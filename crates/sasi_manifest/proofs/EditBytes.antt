@@ -53,25 +53,25 @@ numbers_bytes files ns = ap (λ (l : Bytes). to_be_bytes w32 (length ns) ++ l) (
 abbrev pub part_bytes : PartNumber → Bytes
 part_bytes p = to_be_bytes w32 p.index ++ to_be_bytes w32 p.part
 
-pub parts_bytes : (ps : List PartNumber) → formats.encoded parts ps ≡ to_be_bytes w16 (length ps) ++ flat_map part_bytes ps
-parts_bytes ps = ap (λ (l : Bytes). to_be_bytes w16 (length ps) ++ l) (items_flat (λ before. formats.encoded part) part_bytes (λ before p. refl) [] ps)
+pub parts_bytes : (ps : List PartNumber) → formats.encoded (parts []) ps ≡ to_be_bytes w16 (length ps) ++ flat_map part_bytes ps
+parts_bytes ps = ap (λ (l : Bytes). to_be_bytes w16 (length ps) ++ l) (items_flat (λ before. formats.encoded (part [] before)) part_bytes (λ before p. refl) [] ps)
 
 abbrev pub file_bytes : ListedFile → Bytes
-file_bytes f = to_be_bytes w32 f.number ++ formats.encoded parts f.parts
+file_bytes f = to_be_bytes w32 f.number ++ formats.encoded (parts []) f.parts
 
-pub files_bytes : (tables : List ListedDefinition) (removed : List ℕ) (fs : List ListedFile) → formats.encoded (new_files tables removed) fs ≡ to_be_bytes w32 (length fs) ++ flat_map file_bytes fs
-files_bytes tables removed fs = ap (λ (l : Bytes). to_be_bytes w32 (length fs) ++ l) (items_flat (λ before. formats.encoded (new_file_format tables removed before)) file_bytes (λ before f. refl) [] fs)
+pub files_bytes : (tables : List ListedDefinition) (table : ℕ) (removed : List ℕ) (fs : List ListedFile) → formats.encoded (new_files tables table removed) fs ≡ to_be_bytes w32 (length fs) ++ flat_map file_bytes fs
+files_bytes tables table removed fs = ap (λ (l : Bytes). to_be_bytes w32 (length fs) ++ l) (items_flat (λ before. formats.encoded (new_file_format tables table removed before)) file_bytes (λ before f. refl) [] fs)
 
 -- the bytes of files in the place of others
 abbrev pub segments_bytes : ℕ → ℕ → ℕ → Bytes
 segments_bytes since floor last = to_be_bytes w32 since ++ (to_be_bytes w32 floor ++ to_be_bytes w32 last)
 
 pub replace_bytes : (tables : List ListedDefinition) (table : ℕ) (removed : List ℕ) (added : List ListedFile) (since floor last : ℕ) → formats.encoded (replace tables) (Replace table removed added since floor last)
-    ≡ to_be_bytes w32 table ++ ((formats.encoded (removed_numbers []) removed ++ formats.encoded (new_files [] []) added) ++ segments_bytes since floor last)
+    ≡ to_be_bytes w32 table ++ ((formats.encoded (removed_numbers []) removed ++ formats.encoded (new_files [] 0 []) added) ++ segments_bytes since floor last)
 unfolding replace
 replace_bytes tables table removed added since floor last =
-    ap (λ (l : Bytes). to_be_bytes w32 table ++ ((l ++ formats.encoded (new_files tables removed) added) ++ segments_bytes since floor last)) (numbers_bytes (files_of tables table) removed ∙ sym (numbers_bytes [] removed))
-    ∙ ap (λ (l : Bytes). to_be_bytes w32 table ++ ((formats.encoded (removed_numbers []) removed ++ l) ++ segments_bytes since floor last)) (files_bytes tables removed added ∙ sym (files_bytes [] [] added))
+    ap (λ (l : Bytes). to_be_bytes w32 table ++ ((l ++ formats.encoded (new_files tables table removed) added) ++ segments_bytes since floor last)) (numbers_bytes (files_of tables table) removed ∙ sym (numbers_bytes [] removed))
+    ∙ ap (λ (l : Bytes). to_be_bytes w32 table ++ ((formats.encoded (removed_numbers []) removed ++ l) ++ segments_bytes since floor last)) (files_bytes tables table removed added ∙ sym (files_bytes [] 0 [] added))
 
 -- ---- edits
 
@@ -144,7 +144,7 @@ parts_length (p ∷ ps) = omega (arith, parts_length ps, length-append (part_byt
 
 pub file_size : (f : ListedFile) → length (file_bytes f) ≡ file_length f
 file_size f =
-    omega (arith, length-append (to_be_bytes w32 f.number) (formats.encoded parts f.parts), ap length (parts_bytes f.parts), length-append (to_be_bytes w16 (length f.parts)) (flat_map part_bytes f.parts), parts_length f.parts)
+    omega (arith, length-append (to_be_bytes w32 f.number) (formats.encoded (parts []) f.parts), ap length (parts_bytes f.parts), length-append (to_be_bytes w16 (length f.parts)) (flat_map part_bytes f.parts), parts_length f.parts)
 
 files_length : (fs : List ListedFile) → length (flat_map file_bytes fs) ≡ sum_by file_length fs
 files_length [] = refl
@@ -155,7 +155,7 @@ pub replace_length : (table : ℕ) (removed : List ℕ) (added : List ListedFile
 unfolding edit
 replace_length table removed added since floor last =
     let numbers = formats.encoded (removed_numbers []) removed in
-    let files = formats.encoded (new_files [] []) added in
+    let files = formats.encoded (new_files [] 0 []) added in
     let segments = segments_bytes since floor last in
     omega (
       arith,
@@ -166,7 +166,7 @@ replace_length table removed added since floor last =
       ap length (numbers_bytes [] removed),
       length-append (to_be_bytes w32 (length removed)) (flat_map (to_be_bytes w32) removed),
       numbers_length removed,
-      ap length (files_bytes [] [] added),
+      ap length (files_bytes [] 0 [] added),
       length-append (to_be_bytes w32 (length added)) (flat_map file_bytes added),
       files_length added,
     )
@@ -234,11 +234,11 @@ edits_put es at old new end put = all_put edit_bytes es at (to_be_bytes w32 (len
 pub numbers_put : (ns : List ℕ) (at : ℕ) (old new : Bytes) → length ns ≤ at → new ++ flat_map (to_be_bytes w32) (drop at ns) ≡ old ++ (to_be_bytes w32 (length ns) ++ flat_map (to_be_bytes w32) ns) → new ≡ old ++ formats.encoded (removed_numbers []) ns
 numbers_put ns at old new end put = all_put (to_be_bytes w32) ns at (to_be_bytes w32 (length ns)) old new end put ∙ ap (λ (l : Bytes). old ++ l) (sym (numbers_bytes [] ns))
 
-pub parts_put : (ps : List PartNumber) (at : ℕ) (old new : Bytes) → length ps ≤ at → new ++ flat_map part_bytes (drop at ps) ≡ old ++ (to_be_bytes w16 (length ps) ++ flat_map part_bytes ps) → new ≡ old ++ formats.encoded parts ps
+pub parts_put : (ps : List PartNumber) (at : ℕ) (old new : Bytes) → length ps ≤ at → new ++ flat_map part_bytes (drop at ps) ≡ old ++ (to_be_bytes w16 (length ps) ++ flat_map part_bytes ps) → new ≡ old ++ formats.encoded (parts []) ps
 parts_put ps at old new end put = all_put part_bytes ps at (to_be_bytes w16 (length ps)) old new end put ∙ ap (λ (l : Bytes). old ++ l) (sym (parts_bytes ps))
 
-pub files_put : (fs : List ListedFile) (at : ℕ) (old new : Bytes) → length fs ≤ at → new ++ flat_map file_bytes (drop at fs) ≡ old ++ (to_be_bytes w32 (length fs) ++ flat_map file_bytes fs) → new ≡ old ++ formats.encoded (new_files [] []) fs
-files_put fs at old new end put = all_put file_bytes fs at (to_be_bytes w32 (length fs)) old new end put ∙ ap (λ (l : Bytes). old ++ l) (sym (files_bytes [] [] fs))
+pub files_put : (fs : List ListedFile) (at : ℕ) (old new : Bytes) → length fs ≤ at → new ++ flat_map file_bytes (drop at fs) ≡ old ++ (to_be_bytes w32 (length fs) ++ flat_map file_bytes fs) → new ≡ old ++ formats.encoded (new_files [] 0 []) fs
+files_put fs at old new end put = all_put file_bytes fs at (to_be_bytes w32 (length fs)) old new end put ∙ ap (λ (l : Bytes). old ++ l) (sym (files_bytes [] 0 [] fs))
 
 -- what holds of each item that is left
 pub each_at : {A : Type 0} (P : A → Type 0) (xs : List A) (i : ℕ) (x : A) → i < length xs → x ≡ get_or xs i x → AllByRecursion P (drop i xs) → P x × AllByRecursion P (drop (i + 1) xs)

@@ -6,7 +6,6 @@ use Rattle.std.proofs.lemmas.List.Elements.{recursion_from_All}
 use Rattle.sasi_types.specs.declared.index_def.IndexDef.{IndexDef}
 use Rattle.std.specs.Prelude.{max}
 use Rattle.std.specs.Ordering.{nat_cmp, ord_max}
-use Rattle.std.proofs.lemmas.Bool.Decides.{nat_tests}
 use Rattle.sasi_model.specs.Cells.{largest}
 use Rattle.sasi_model.specs.Indexes.{index_of}
 use Rattle.sasi_schema.specs.Defined.{definition, numbers_of}
@@ -15,7 +14,7 @@ use Rattle.sasi_schema.specs.Numbers.{RisesFrom}
 use Rattle.sasi_schema.specs.declared.table.Table.{Table}
 use Rattle.sasi_manifest.specs.declared.listed.ListedTable.{ListedTable}
 use Rattle.sasi_manifest.specs.ListedTables.{listed}
-use Rattle.sasi_manifest.specs.Listings.{all_defs, def_of, defs_of, largest_index}
+use Rattle.sasi_manifest.specs.Listings.{all_defs, def_of, largest_index}
 
 -- the definitions that a table in memory has are those of its definition and its numbers
 own_defs : (n : ℕ) (t : Table) (defs : List IndexDef) → t.number ≡ n → AllByRecursion (IsIndexOf t.number t.columns t.key) defs → map (def_of n (definition t)) (zip (map (λ (def : IndexDef). def.number) defs) (map index_of defs)) ≡ defs

@@ -1,25 +1,28 @@
 -- A new index keeps a listing consistent: its number, its name and its column are free.
-use Rattle.std.specs.Prelude.{◌≡◌, ℕ, zero, suc, ◌+◌, ◌-◌, ◌<◌, ◌≤◌, Bool, true, false, ◌||◌, cond, is_some, nat_eq, List, [], ◌∷◌, ◌++◌, length, map, slice_get, Option, None, Some, unwrap_or, if◌then◌else◌, refl}
-use Rattle.std.proofs.Common.{sym, ap, subst, ◌∙◌, arith, rules, length-append}
+use Rattle.std.specs.Prelude.{◌≡◌, ℕ, zero, suc, ◌+◌, ◌-◌, ◌<◌, ◌≤◌, ◌^◌, Bool, true, false, not, cond, is_some, nat_eq, nat_le, List, [], ◌∷◌, ◌++◌, map, slice_get, Option, Some, unwrap_or, if◌then◌else◌, refl}
+use Rattle.std.proofs.Common.{sym, ap, subst, ◌∙◌, arith, length-append}
 use Rattle.std.specs.Cmp.Lexicographic.{same_text}
-use Rattle.std.specs.List.{AllByRecursion, count_by, find, flat_map, list_any}
-use Rattle.std.proofs.lemmas.Bool.Decides.{nat_tests}
-use Rattle.std.proofs.lemmas.List.{length-map, map-append}
+use Rattle.std.specs.List.{AllByRecursion, count_by, flat_map, list_any}
+use Rattle.std.specs.Option.{option_map_or}
+use Rattle.std.proofs.lemmas.List.{map-append}
 use Rattle.std.proofs.lemmas.List.Sums.{sum_by-append, sum_by-cons, sum_by_push}
 use Rattle.sasi_types.specs.declared.index_def.IndexDef.{IndexDef}
 use Rattle.sasi_host.specs.Names.{Bytes}
-use Rattle.sasi_model.specs.Indexes.{index_of, index_on}
+use Rattle.sasi_model.specs.Abbreviations.{kind_of}
+use Rattle.sasi_model.specs.Indexes.{index_of, index_on, mode_fits}
 use Rattle.sasi_model.specs.State.{Definition, Index}
 use Rattle.sasi_model.specs.Statements.{same}
 use Rattle.sasi_manifest.specs.declared.files.ListedFile.{ListedFile}
 use Rattle.sasi_manifest.specs.declared.listing.Listing.{Listing}
 use Rattle.sasi_manifest.specs.Abbreviations.{with_defined_index}
-use Rattle.sasi_manifest.specs.Consistent.{FilesRise, HasIndexes, IsConsistent}
-use Rattle.sasi_manifest.specs.Edits.{definition_at, index_names, index_numbers}
+use Rattle.sasi_manifest.specs.Consistent.{FilesRise, HasIndexes, HasParts, IsConsistent}
+use Rattle.sasi_manifest.specs.Edits.{index_names, index_numbers, numbers_at}
 use Rattle.sasi_manifest.specs.ListedDefinition.{ListedDefinition}
-use Rattle.sasi_manifest.specs.ListedFiles.{has_file}
-use Rattle.sasi_manifest.specs.Listings.{at_number, listed_definitions, listed_with_index}
+use Rattle.sasi_manifest.specs.ListedFiles.{FitParts, has_file, is_among, with_file, with_files, without}
+use Rattle.sasi_manifest.specs.Listings.{at_number, listed_definitions, listed_with_index, replaced}
+use Rattle.sasi_manifest.proofs.Applying.{AreNewFiles}
 use Rattle.sasi_manifest.proofs.Defining.{CanDefine}
+use Rattle.sasi_manifest.proofs.PartLaws.{parts_stay}
 use Rattle.sasi_manifest.proofs.Replacing.{At, all_at, at_each, either_false, same_number, same_owners, unchanged}
 
 -- ---- parts of all tables in one list
@@ -94,7 +97,7 @@ names_kept f same_names n number tables = names_are (at_number n number f tables
 -- ---- items by their numbers
 
 -- the item that has the number changes from one property to another
-all_where : {A : Type 0} (P Q : A → Type 0) (f : A → A) → ((x : A) → P x → Q x) → (n number : ℕ) (xs : List A) → At n number (λ x. P x → Q (f x)) xs → AllByRecursion P xs → AllByRecursion Q (at_number n number f xs)
+pub all_where : {A : Type 0} (P Q : A → Type 0) (f : A → A) → ((x : A) → P x → Q x) → (n number : ℕ) (xs : List A) → At n number (λ x. P x → Q (f x)) xs → AllByRecursion P xs → AllByRecursion Q (at_number n number f xs)
 all_where P Q f kept n number [] changed all = tt
 all_where P Q f kept n number (x ∷ xs) changed all = (by (nat_eq n number) refl, all_where P Q f kept (suc n) number xs changed.1 all.1)
   where
@@ -133,15 +136,73 @@ free_column column (i ∷ indexes) none = by (nat_eq i.column column) refl none 
     by true here none rest = (let never : true ≡ false = none in cc)
     by false other none rest = omega (arith, sum_by-cons (λ (i : Index). cond (nat_eq i.column column) 1 0) i indexes, ap {B = ℕ} (λ b. cond b 1 0) other, rest none)
 
-one_index : (def : IndexDef) (t : ListedDefinition) → is_some (index_on def.column t.definition.indexes) ≡ false → HasIndexes t → HasIndexes (listed_with_index def t)
-one_index def t free has = record {
+-- one more item, of which the same holds
+all_push : {A : Type 0} (P : A → Type 0) (xs : List A) (x : A) → AllByRecursion P xs → P x → AllByRecursion P (xs ++ x ∷ [])
+all_push P [] x all is = (is, tt)
+all_push P (y ∷ xs) x all is = (all.0, all_push P xs x all.1 is)
+
+-- the number, the column and the mode of an index that comes
+record IsNewIndex (def : IndexDef) (t : ListedDefinition) : Type 0 where
+  pub number_some : 1 ≤ def.number
+  pub number_fits : def.number < 2 ^ 32
+  pub column_some : 1 ≤ def.column
+  pub column_fits : def.column < 2 ^ 16
+  pub free : is_some (index_on def.column t.definition.indexes) ≡ false
+  pub typed : mode_fits def.mode (kind_of t.definition def.column) ≡ true
+
+one_index : (def : IndexDef) (t : ListedDefinition) → IsNewIndex def t → HasIndexes t → HasIndexes (listed_with_index def t)
+one_index def t new has = record {
   counted = omega (arith, has.counted, length-append t.numbers (def.number ∷ []), length-append t.definition.indexes (index_of def ∷ []));
+  numbered = all_push (λ (n : ℕ). (1 ≤ n) × (n < 2 ^ 32)) t.numbers def.number has.numbered (new.number_some, new.number_fits);
+  regular = all_push (λ (i : Index). (1 ≤ i.column) × (i.column < 2 ^ 16)) t.definition.indexes (index_of def) has.regular (new.column_some, new.column_fits);
+  typed = all_push (λ (i : Index). mode_fits i.mode (kind_of t.definition i.column) ≡ true) t.definition.indexes (index_of def) has.typed new.typed;
   columns = λ column. grown (nat_eq def.column column) (count_by (λ (i : Index). nat_eq i.column column) t.definition.indexes) _
       (omega (arith, sum_by_push (λ (i : Index). cond (nat_eq i.column column) 1 0) t.definition.indexes (index_of def)))
       (has.columns column)
       (λ here. (let equal : def.column ≡ column = same_number def.column column here in
-      subst (λ c. count_by (λ (i : Index). nat_eq i.column c) t.definition.indexes ≡ 0) equal (free_column def.column t.definition.indexes free)));
+      subst (λ c. count_by (λ (i : Index). nat_eq i.column c) t.definition.indexes ≡ 0) equal (free_column def.column t.definition.indexes new.free)));
 }
+
+-- ---- parts of files
+
+more_parts : (numbers : List ℕ) (number : ℕ) (files : List ListedFile) → AllByRecursion (λ f. FitParts numbers f.parts) files → AllByRecursion (λ f. FitParts (numbers ++ number ∷ []) f.parts) files
+more_parts numbers number [] all = tt
+more_parts numbers number (f ∷ files) all = (parts_stay numbers number f.parts all.0, more_parts numbers number files all.1)
+
+-- files with parts in the place of others
+all_with : (P : ListedFile → Type 0) (f : ListedFile) (files : List ListedFile) → P f → AllByRecursion P files → AllByRecursion P (with_file f files)
+all_with P f [] own all = (own, tt)
+all_with P f (g ∷ gs) own all = elim (nat_le f.number g.number) as (λ b. AllByRecursion P (if b then f ∷ g ∷ gs else g ∷ with_file f gs)) [
+  | true ↦ (own, all)
+  | false ↦ (all.0, all_with P f gs own all.1)
+]
+
+all_added : (P : ListedFile → Type 0) (added files : List ListedFile) → AllByRecursion P added → AllByRecursion P files → AllByRecursion P (with_files added files)
+all_added P [] files new all = all
+all_added P (f ∷ added) files new all = all_added P added (with_file f files) new.1 (all_with P f files new.0 all)
+
+all_left : (P : ListedFile → Type 0) (removed : List ℕ) (files : List ListedFile) → AllByRecursion P files → AllByRecursion P (without removed files)
+all_left P removed [] all = tt
+all_left P removed (f ∷ files) all = elim (not (is_among removed f.number)) as (λ b. AllByRecursion P (if b then f ∷ without removed files else without removed files)) [
+  | true ↦ (all.0, all_left P removed files all.1)
+  | false ↦ all_left P removed files all.1
+]
+
+each_fits : (tables : List ListedDefinition) (table : ℕ) (removed : List ℕ) (before added : List ListedFile) → AreNewFiles tables table removed before added → AllByRecursion (λ f. FitParts (numbers_at tables table) f.parts) added
+each_fits tables table removed before [] new = tt
+each_fits tables table removed before (f ∷ added) new = (new.0.parts, each_fits tables table removed (before ++ f ∷ []) added new.1)
+
+pub parts_replaced : (tables : List ListedDefinition) (table since : ℕ) (removed : List ℕ) (added : List ListedFile) → 1 ≤ table → AreNewFiles tables table removed [] added → AllByRecursion HasParts tables
+    → AllByRecursion HasParts (at_number 1 table (replaced removed added since) tables)
+parts_replaced tables table since removed added some new all =
+    let f = replaced removed added since in
+    let numbered : 1 + (table - 1) ≡ table = omega (arith, some) in
+    let those : (t : ListedDefinition) → slice_get tables (table - 1) ≡ Some t → HasParts t → HasParts (f t) = λ t there has.
+    all_added (λ g. FitParts t.numbers g.parts) added (without removed t.files)
+    (subst (λ (l : List ℕ). AllByRecursion (λ g. FitParts l g.parts) added) (ap (λ (o : Option ListedDefinition). option_map_or (λ (x : ListedDefinition). x.numbers) o []) there) (each_fits tables table removed [] added new))
+    (all_left (λ g. FitParts t.numbers g.parts) removed t.files has) in
+    all_where HasParts HasParts f (λ t is. is) 1 table tables
+    (subst (λ number. At 1 number (λ (t : ListedDefinition). HasParts t → HasParts (f t)) tables) numbered (at_got (λ (t : ListedDefinition). HasParts t → HasParts (f t)) 1 (table - 1) tables those)) all
 
 -- ---- the listing
 
@@ -154,10 +215,18 @@ define_consistent listing def can known =
       since = all_at (λ (t : ListedDefinition). t.since ≤ listing.last) (λ t. t.since ≤ listing.last) f (λ t is. is) (λ t is. is) 1 def.table listing.tables known.since;
       files = all_at (λ (t : ListedDefinition). FilesRise 0 t.files) (λ t. FilesRise 0 t.files) f (λ t is. is) (λ t is. is) 1 def.table listing.tables known.files;
       apart = λ n. omega (arith, known.apart n, same_owners n def.table 1 f listing.tables (at_each (λ t. has_file (f t).files n ≡ true → has_file t.files n ≡ true) (λ t is. is) 1 def.table listing.tables));
+      parts = all_at HasParts HasParts f (λ t is. more_parts t.numbers def.number t.files is) (λ t is. is) 1 def.table listing.tables known.parts;
       indexes = all_where HasIndexes HasIndexes f (λ t is. is) 1 def.table listing.tables
           (subst (λ number. At 1 number (λ (t : ListedDefinition). HasIndexes t → HasIndexes (f t)) listing.tables) numbered
           (at_got (λ (t : ListedDefinition). HasIndexes t → HasIndexes (f t)) 1 (def.table - 1) listing.tables
-          (λ t is. one_index def t (sym (ap (λ (d : Definition). is_some (index_on def.column d.indexes)) (definition_got listing.tables (def.table - 1) _ t is)) ∙ can.on_table.column_free))))
+          (λ t is. one_index def t (record {
+            number_some = can.number_some;
+            number_fits = can.number_fits;
+            column_some = can.on_table.column_some;
+            column_fits = can.on_table.column_fits;
+            free = sym (ap (λ (d : Definition). is_some (index_on def.column d.indexes)) (definition_got listing.tables (def.table - 1) _ t is)) ∙ can.on_table.column_free;
+            typed = subst (λ (d : Definition). mode_fits def.mode (kind_of d def.column) ≡ true) (definition_got listing.tables (def.table - 1) _ t is) can.on_table.mode;
+          }))))
           known.indexes;
       numbers = λ n. grown (nat_eq n def.number) (count_by (nat_eq n) (index_numbers listing.tables)) _
           (counted_more (λ t. t.numbers) f def.number (λ t. refl) (nat_eq n) 1 def.table listing.tables) (known.numbers n)

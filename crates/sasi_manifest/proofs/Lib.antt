@@ -1,5 +1,6 @@
 pub mod NameFits
 pub mod Defining
+pub mod PartLaws
 pub mod Applying
 pub mod Replacing
 pub mod IndexDefs
@@ -11,6 +12,7 @@ pub mod FileOrder
 pub mod Sizes
 pub mod IndexLaws
 pub mod Consistency
+pub mod FewIndexes
 pub mod Laws
 pub mod Additions
 pub mod ColumnTypes

@@ -167,11 +167,11 @@ new_before tables removed before f n is =
       (either_false (nat_eq n f.number) false none.1).0,
     )
 
-with_files_rise : (tables : List ListedDefinition) (removed : List ℕ) (before added files : List ListedFile) → AreNewFiles tables removed before added → FilesRise 0 files
+with_files_rise : (tables : List ListedDefinition) (table : ℕ) (removed : List ℕ) (before added files : List ListedFile) → AreNewFiles tables table removed before added → FilesRise 0 files
     → ((n : ℕ) → is_new tables removed before n ≡ true → has_file files n ≡ false) → FilesRise 0 (with_files added files)
-with_files_rise tables removed before [] files new rise free = rise
-with_files_rise tables removed before (f ∷ added) files new rise free =
-    with_files_rise tables removed (before ++ f ∷ []) added (with_file f files) new.1
+with_files_rise tables table removed before [] files new rise free = rise
+with_files_rise tables table removed before (f ∷ added) files new rise free =
+    with_files_rise tables table removed (before ++ f ∷ []) added (with_file f files) new.1
     (with_file_rises f 0 files rise (omega (arith, new.0.some)) new.0.number_fits (free f.number new.0.free))
     (λ n is. (let earlier = new_before tables removed before f n is in
     has_with_file f files n ∙ ap (λ b. b || has_file files n) earlier.1 ∙ free n earlier.0))
@@ -199,11 +199,11 @@ new_is_free tables removed files n listed free = has_without removed files n ∙
     by true gone false h is = (let never = h refl in cc)
     by false gone any h is = refl
 
-pub files_replaced : (tables : List ListedDefinition) (table since : ℕ) (removed : List ℕ) (added : List ListedFile) → AreNewFiles tables removed [] added → AllByRecursion (λ t. FilesRise 0 t.files) tables
+pub files_replaced : (tables : List ListedDefinition) (table since : ℕ) (removed : List ℕ) (added : List ListedFile) → AreNewFiles tables table removed [] added → AllByRecursion (λ t. FilesRise 0 t.files) tables
     → AllByRecursion (λ t. FilesRise 0 t.files) (at_number 1 table (replaced removed added since) tables)
 files_replaced tables table since removed added new rise =
     all_at (λ (t : ListedDefinition). FilesRise 0 t.files × ((n : ℕ) → has_file t.files n ≡ true → list_any (λ t. has_file t.files n) tables ≡ true)) (λ t. FilesRise 0 t.files) (replaced removed added since)
-    (λ t is. with_files_rise tables removed [] added (without removed t.files) new (without_rises removed 0 t.files is.0)
+    (λ t is. with_files_rise tables table removed [] added (without removed t.files) new (without_rises removed 0 t.files is.0)
     (λ n free. new_is_free tables removed t.files n (is.1 n) (not_false (is_taken tables removed n) (both (not (is_taken tables removed n)) true free).0)))
     (λ t is. is.0) 1 table tables
     (all_and (λ (t : ListedDefinition). FilesRise 0 t.files) (λ (t : ListedDefinition). (n : ℕ) → has_file t.files n ≡ true → list_any (λ t. has_file t.files n) tables ≡ true) tables rise (each_listed tables tables (λ n is. is)))
@@ -290,20 +290,20 @@ removed_there files before (m ∷ removed) n all is =
     ] refl is
 
 -- an added number isn't that of a file that stays
-added_free : (tables : List ListedDefinition) (removed : List ℕ) (before added : List ListedFile) (n : ℕ) → AreNewFiles tables removed before added → has_file added n ≡ true → is_taken tables removed n ≡ false
-added_free tables removed before [] n new is = cc
-added_free tables removed before (f ∷ added) n new is =
+added_free : (tables : List ListedDefinition) (table : ℕ) (removed : List ℕ) (before added : List ListedFile) (n : ℕ) → AreNewFiles tables table removed before added → has_file added n ≡ true → is_taken tables removed n ≡ false
+added_free tables table removed before [] n new is = cc
+added_free tables table removed before (f ∷ added) n new is =
     elim (nat_eq n f.number) as (λ b. nat_eq n f.number ≡ b → (b || has_file added n) ≡ true → is_taken tables removed n ≡ false) [
       | true ↦ λ same _.
           let equal : n ≡ f.number = same_number n f.number same in
           ap (is_taken tables removed) equal ∙ not_false (is_taken tables removed f.number) (both (not (is_taken tables removed f.number)) (not (has_file before f.number)) new.0.free).0
-      | false ↦ λ other rest. added_free tables removed (before ++ f ∷ []) added n new.1 rest
+      | false ↦ λ other rest. added_free tables table removed (before ++ f ∷ []) added n new.1 rest
     ] refl is
 
 has_replaced : (removed : List ℕ) (added : List ListedFile) (since n : ℕ) (t : ListedDefinition) → has_file (replaced removed added since t).files n ≡ (has_file added n || (has_file t.files n && not (is_among removed n)))
 has_replaced removed added since n t = has_with_files added (without removed t.files) n ∙ ap (λ b. has_file added n || b) (has_without removed t.files n)
 
-pub apart_replaced : (tables : List ListedDefinition) (table since : ℕ) (removed : List ℕ) (added : List ListedFile) → 1 ≤ table → AreNewFiles tables removed [] added → AreCurrent (files_of tables table) [] removed
+pub apart_replaced : (tables : List ListedDefinition) (table since : ℕ) (removed : List ℕ) (added : List ListedFile) → 1 ≤ table → AreNewFiles tables table removed [] added → AreCurrent (files_of tables table) [] removed
     → ((n : ℕ) → owners n tables ≤ 1) → (n : ℕ) → owners n (at_number 1 table (replaced removed added since) tables) ≤ 1
 apart_replaced tables table since removed added some new current apart n =
     by (has_file added n) refl (is_among removed n) refl
@@ -329,7 +329,7 @@ apart_replaced tables table since removed added some new current apart n =
               (subst (λ number. At 1 number (λ t. has_file t.files n ≡ true) tables) numbered there)),
         )
     by true is_added false removed_is =
-        let free = added_free tables removed [] added n new is_added in
+        let free = added_free tables table removed [] added n new is_added in
         let none : list_any (λ t. has_file t.files n) tables ≡ false = sym (and_true (list_any (λ t. has_file t.files n) tables)) ∙ ap (λ b. list_any (λ t. has_file t.files n) tables && not b) (sym removed_is) ∙ free in
         one_owner n table 1 f tables none
       where

@@ -1,5 +1,5 @@
 -- Edits after their tags.
-use Rattle.std.proofs.Common.{◌≡◌, ◌≤◌, ℕ, zero, suc, Bool, true, false, [], ◌∷◌, None, Some, Result, length, take, refl, ap, ◌∙◌, arith, rules}
+use Rattle.std.proofs.Common.{◌≡◌, ◌≤◌, ℕ, zero, suc, Bool, true, false, [], None, Some, Result, length, take, refl, ap, ◌∙◌, arith, rules}
 use Rattle.std.specs.Int.{w8}
 use Rattle.sasi_types.specs.declared.column.ColumnType.{ColumnType}
 use Rattle.sasi_types.specs.declared.rule.Rule.TheVariants.{Whole, Words}

@@ -24,7 +24,7 @@ use Rattle.sasi_model.specs.Tokens.{is_word_byte}
 use Rattle.sasi_formats.specs.Formats.{Format, Sized, Then, Decoded, Counted, Fits, fit_items}
 use Rattle.sasi_formats.specs.Formats as formats
 use Rattle.sasi_formats.specs.Codings.{one_of, passing}
-use Rattle.sasi_formats.specs.Fields.{◌&◌, number, in_range, checked, mapped, tagged, select, flag}
+use Rattle.sasi_formats.specs.Fields.{◌&◌, number, in_range, checked, mapped, tagged, select, flag, last as last_of}
 use Rattle.sasi_manifest.specs.declared.edit.Edit.{Edit}
 use Rattle.sasi_manifest.specs.declared.edit.Edit.TheVariants.{Start, CreateTable, CreateIndex, Replace}
 use Rattle.sasi_manifest.specs.declared.files.ListedFile.{ListedFile}
@@ -229,13 +229,28 @@ removed_number files before = checked rule.Number 4 (is_current files before) (n
 abbrev pub removed_numbers : List ListedFile → Format (List ℕ)
 removed_numbers files = Counted (number w32) (removed_number files)
 
--- a part of an index; no index file is listed yet, so no number names one
-abbrev pub part : Format PartNumber
-part = mapped (λ p. record { index = p.0; part = p.1 }) (λ p. (p.index, p.part)) (λ _. refl)
-    (checked rule.Number 4 (λ _. false) (number w32) & in_range w32 1 (2 ^ 32 - 1))
+-- the numbers of the indexes of the table with this number
+abbrev pub numbers_at : List ListedDefinition → ℕ → List ℕ
+numbers_at tables table = option_map_or (λ t. t.numbers) (slice_get tables (table - 1)) []
 
-abbrev pub parts : Format (List PartNumber)
-parts = Counted (number w16) (λ _. part)
+-- the number of one of these indexes
+abbrev pub part_index : List ℕ → Format ℕ
+part_index indexes = checked rule.Number 4 (is_among indexes) (number w32)
+
+-- it, and the number of its part
+abbrev pub index_part : List ℕ → Format PartNumber
+index_part indexes = mapped (λ p. record { index = p.0; part = p.1 }) (λ p. (p.index, p.part)) (λ _. refl) (part_index indexes & in_range w32 1 (2 ^ 32 - 1))
+
+-- the number is above that of the index of the last of these parts, if there is one
+abbrev pub is_above : List PartNumber → ℕ → Bool
+is_above before index = option_map_or (λ p. nat_lt p.index index) (last_of before) true
+
+-- a part of one of these indexes, which comes after that of each part before
+abbrev pub part : List ℕ → List PartNumber → Format PartNumber
+part indexes before = checked rule.Order 8 (λ p. is_above before p.index) (index_part indexes)
+
+abbrev pub parts : List ℕ → Format (List PartNumber)
+parts indexes = Counted (number w16) (part indexes)
 
 -- a file of another table, or one that stays, has the number
 abbrev pub is_taken : List ListedDefinition → List ℕ → ℕ → Bool
@@ -248,17 +263,17 @@ is_new tables removed before n = not (is_taken tables removed n) && not (has_fil
 abbrev pub new_number : List ListedDefinition → List ℕ → List ListedFile → Format ℕ
 new_number tables removed before = checked rule.Number 4 (is_new tables removed before) (in_range w32 1 (2 ^ 32 - 1))
 
--- a file with a new number, and its parts
-abbrev pub new_file_format : List ListedDefinition → List ℕ → List ListedFile → Format ListedFile
-new_file_format tables removed before = mapped (λ f. record { number = f.0; parts = f.1 }) (λ f. (f.number, f.parts)) (λ _. refl)
-    (new_number tables removed before & parts)
+-- a file of the table with a new number, and its parts
+abbrev pub new_file_format : List ListedDefinition → ℕ → List ℕ → List ListedFile → Format ListedFile
+new_file_format tables table removed before = mapped (λ f. record { number = f.0; parts = f.1 }) (λ f. (f.number, f.parts)) (λ _. refl)
+    (new_number tables removed before & parts (numbers_at tables table))
 
-abbrev pub new_files : List ListedDefinition → List ℕ → Format (List ListedFile)
-new_files tables removed = Counted (number w32) (new_file_format tables removed)
+abbrev pub new_files : List ListedDefinition → ℕ → List ℕ → Format (List ListedFile)
+new_files tables table removed = Counted (number w32) (new_file_format tables table removed)
 
 -- the numbers of files of the table, and new files
 abbrev pub files : List ListedDefinition → ℕ → Format (List ℕ × List ListedFile)
-files tables table = Then (removed_numbers (files_of tables table)) (new_files tables)
+files tables table = Then (removed_numbers (files_of tables table)) (new_files tables table)
 
 -- no table but this one begins after the segment; the first of them has the given number
 abbrev pub are_within : ℕ → ℕ → ℕ → List ListedDefinition → Bool

@@ -2,6 +2,7 @@ pub mod Naming
 pub mod NumberSets
 pub mod ListedFiles
 pub mod ListedDefinition
+pub mod FileNames
 pub mod ListedTables
 pub mod Listings
 pub mod Edits

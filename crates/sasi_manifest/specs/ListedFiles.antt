@@ -1,7 +1,10 @@
 -- The data files that a manifest lists.
-use Rattle.std.specs.Prelude.{ℕ, ◌+◌, ◌*◌, ◌≤◌, length, not, nat_eq, nat_le, Bool, List, [], ◌∷◌, if◌then◌else◌, refl}
-use Rattle.std.specs.List.{filter, list_any}
+use Rattle.std.specs.Prelude.{◌≡◌, ℕ, ◌+◌, ◌*◌, ◌<◌, ◌≤◌, ◌^◌, length, map, max, not, nat_eq, nat_le, Bool, true, List, [], ◌∷◌, if◌then◌else◌, refl}
+use Rattle.std.specs.List.{AllByRecursion, filter, list_any}
 use Rattle.std.specs.Coded.{Coded, code_by, coded×, coded_ℕ, coded_list}
+use Rattle.sasi_host.specs.declared.name.FileName.{FileName}
+use Rattle.sasi_host.specs.declared.name.Kind.TheVariants.{Index}
+use Rattle.sasi_host.specs.Names.{data_name}
 use Rattle.sasi_manifest.specs.declared.files.ListedFile.{ListedFile}
 use Rattle.sasi_manifest.specs.declared.files.PartNumber.{PartNumber}
 
@@ -31,6 +34,54 @@ with_files (f ∷ added) files = with_files added (with_file f files)
 abbrev pub AreInOrder : ℕ → List ListedFile → Type 0
 AreInOrder least [] = Unit {0}
 AreInOrder least (f ∷ fs) = (least ≤ f.number) × AreInOrder f.number fs
+
+-- ---- names
+
+-- the index file that goes with the data file of this number, with the numbers of its index and of the part
+abbrev pub index_name : ℕ → PartNumber → FileName
+index_name number p = record { kind = Index; number = number; index = p.index; part = p.part }
+
+-- the data file, and the index files that go with it
+abbrev pub names_of : ListedFile → List FileName
+names_of f = data_name f.number ∷ map (index_name f.number) f.parts
+
+-- ---- parts of indexes
+
+-- the numbers rise, the first above this one
+abbrev pub NumbersRise : ℕ → List ℕ → Type 0
+NumbersRise above [] = Unit {0}
+NumbersRise above (n ∷ ns) = (above < n) × NumbersRise n ns
+
+-- the numbers of the indexes rise from part to part
+abbrev pub IndexesRise : List PartNumber → Type 0
+IndexesRise [] = Unit {0}
+IndexesRise (p ∷ ps) = NumbersRise p.index (map (λ q. q.index) ps)
+
+-- a part of one of the indexes of these numbers, with a number from 1 on
+pub record IsPart (numbers : List ℕ) (p : PartNumber) : Type 0 where
+  pub listed : is_among numbers p.index ≡ true
+  pub index_fits : p.index < 2 ^ 32
+  pub some : 1 ≤ p.part
+  pub part_fits : p.part < 2 ^ 32
+
+-- The parts of a file of a table whose indexes have these numbers: of each index at most one, in the order of the indexes.
+pub record FitParts (numbers : List ℕ) (parts : List PartNumber) : Type 0 where
+  pub few : length parts < 2 ^ 16
+  pub each : AllByRecursion (IsPart numbers) parts
+  pub rise : IndexesRise parts
+
+-- ---- numbers of parts
+
+-- the largest, 0 where there is none
+abbrev pub largest_of_parts : List PartNumber → ℕ
+largest_of_parts [] = 0
+largest_of_parts (p ∷ ps) = max p.part (largest_of_parts ps)
+
+abbrev pub largest_of_files : List ListedFile → ℕ
+largest_of_files [] = 0
+largest_of_files (f ∷ fs) = max (largest_of_parts f.parts) (largest_of_files fs)
+
+-- ---- lengths
 
 -- how many bytes a file takes in a record
 abbrev pub file_length : ListedFile → ℕ

@@ -4,7 +4,7 @@ ghost use Rattle.std.specs.Prelude.{◌≡◌, ◌++◌, ◌∷◌, [], OnOk, On
 use crate::file_list::replace_files;
 use crate::number_set::NumberSet;
 use sasi_formats::Items;
-use sasi_host::DataNumber;
+use sasi_host::{DataNumber, FileName, Kind};
 use std::alloc::{AllocError, Global};
 use std::marker::Model;
 
@@ -13,6 +13,22 @@ use std::marker::Model;
 pub struct PartNumber {
     pub index: u32,
     pub part: u32,
+}
+
+impl PartNumber {
+    ghost use Rattle.sasi_manifest.specs.ListedFiles.{index_name};
+
+    /// The name of the index file that goes with the data file of this number.
+    pub fn file_name(self, number: DataNumber) -> FileName
+        ensures { result ≡ index_name number self }
+    {
+        FileName {
+            kind: Kind::Index,
+            number,
+            index: self.index,
+            part: self.part,
+        }
+    }
 }
 
 /// Parts of indexes, in the order of the indexes.

@@ -4,13 +4,13 @@ ghost use Rattle.std.specs.List.{list_any};
 ghost use Rattle.sasi_model.specs.Cells.{largest};
 ghost use Rattle.sasi_model.specs.Indexes.{index_of};
 ghost use Rattle.sasi_model.specs.Statements.{same};
-ghost use Rattle.sasi_manifest.specs.Edits.{index_names, index_numbers};
+ghost use Rattle.sasi_manifest.specs.Edits.{index_names, index_numbers, numbers_at};
 ghost use Rattle.sasi_manifest.specs.ListedFiles.{is_among};
 ghost use Rattle.sasi_manifest.specs.ListedTables.{listed};
 ghost use Rattle.sasi_manifest.specs.Listings.{largest_index, listed_definitions};
 
 use crate::ListedTable;
-use sasi_types::{IndexDef, IndexNumber};
+use sasi_types::{IndexDef, IndexNumber, TableNumber};
 
 /// Whether an index of one of the tables has the number.
 pub fn is_index_listed(number: IndexNumber, tables: &[ListedTable]) -> bool
@@ -22,6 +22,16 @@ pub fn is_index_listed(number: IndexNumber, tables: &[ListedTable]) -> bool
         }
     }
     false
+}
+
+/// Whether an index of the table with this number has the number.
+pub fn is_index_of(tables: &[ListedTable], table: TableNumber, number: IndexNumber) -> bool
+    ensures { result ≡ is_among (numbers_at (map listed tables.now) table) number }
+{
+    match tables.get((table as usize).saturating_sub(1)) {
+        Some(found) => has_number(number, found.table.indexes.as_slice()),
+        None => false,
+    }
 }
 
 fn has_number(number: IndexNumber, indexes: &[IndexDef]) -> bool

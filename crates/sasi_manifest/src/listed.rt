@@ -5,7 +5,7 @@ ghost use Rattle.sasi_schema.specs.Numbers.{RisesFrom};
 ghost use Rattle.sasi_manifest.specs.Naming.{AreApart, IsFree};
 
 use crate::files::{ListedFile, ListedFiles};
-use crate::index_list::{is_index_listed, is_index_named, largest_index};
+use crate::index_list::{is_index_listed, is_index_named, is_index_of, largest_index};
 use crate::table_list::{
     are_within, copies, define_at, files_at, is_file_listed, is_file_of, is_listed, replace_at,
     table_at,
@@ -53,7 +53,7 @@ impl ListedTables {
     ghost use Rattle.sasi_schema.specs.IndexFacts.{IsIndexIn};
     ghost use Rattle.sasi_manifest.specs.ListedTables.{listed};
     ghost use Rattle.sasi_manifest.specs.Abbreviations.{listed_names};
-    ghost use Rattle.sasi_manifest.specs.Edits.{are_within, definition_at, files_of, index_names, index_numbers};
+    ghost use Rattle.sasi_manifest.specs.Edits.{are_within, definition_at, files_of, index_names, index_numbers, numbers_at};
     ghost use Rattle.sasi_manifest.specs.ListedFiles.{has_file, is_among};
     ghost use Rattle.sasi_manifest.specs.Listings.{at_number, largest_index, listed_definitions, listed_with_index, replaced};
 
@@ -116,6 +116,13 @@ impl ListedTables {
         ensures { result ≡ is_among (index_numbers self.now) number }
     {
         is_index_listed(number, &self.items)
+    }
+
+    /// Whether an index of the table with this number has the number.
+    pub fn has_index_of(&self, table: TableNumber, number: IndexNumber) -> bool
+        ensures { result ≡ is_among (numbers_at self.now table) number }
+    {
+        is_index_of(&self.items, table, number)
     }
 
     /// Whether an index of one of the tables has the name.

@@ -130,7 +130,7 @@ fn put_numbers(out: &mut Vec<u8>, numbers: &[DataNumber]) -> Result<(), AllocErr
 fn put_files(out: &mut Vec<u8>, files: &[ListedFile]) -> Result<(), AllocError>
     requires few { length files.now < 2 ^ 32 }
     requires parts { AllByRecursion (λ f. length f.parts < 2 ^ 16) files.now }
-    ensures { OnOk result (out.new.items ≡ out.old.items ++ encoded (new_files [] []) files.now) }
+    ensures { OnOk result (out.new.items ≡ out.old.items ++ encoded (new_files [] 0 []) files.now) }
 {
     put_u32(out, files.len() as u32)?;
     for file in files {
@@ -142,7 +142,7 @@ fn put_files(out: &mut Vec<u8>, files: &[ListedFile]) -> Result<(), AllocError>
 // Appends the number of a file, then its parts.
 fn put_file(out: &mut Vec<u8>, file: &ListedFile) -> Result<(), AllocError>
     requires { length file.now.parts < 2 ^ 16 }
-    ensures { OnOk result (out.new.items ≡ out.old.items ++ encoded (new_file_format [] [] []) file.now) }
+    ensures { OnOk result (out.new.items ≡ out.old.items ++ encoded (new_file_format [] 0 [] []) file.now) }
 {
     put_u32(out, file.number)?;
     put_parts(out, file.parts.as_slice())
@@ -151,7 +151,7 @@ fn put_file(out: &mut Vec<u8>, file: &ListedFile) -> Result<(), AllocError>
 // Appends the number of parts, then each of them.
 fn put_parts(out: &mut Vec<u8>, parts: &[PartNumber]) -> Result<(), AllocError>
     requires { length parts.now < 2 ^ 16 }
-    ensures { OnOk result (out.new.items ≡ out.old.items ++ encoded parts_format parts.now) }
+    ensures { OnOk result (out.new.items ≡ out.old.items ++ encoded (parts_format []) parts.now) }
 {
     put_u16(out, parts.len() as u16)?;
     for part in parts {

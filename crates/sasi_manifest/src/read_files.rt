@@ -2,16 +2,15 @@
 ghost use Rattle.std.specs.Prelude.{◌≡◌, []};
 ghost use Rattle.sasi_formats.specs.Reader.{read, read_items as items_of};
 ghost use Rattle.sasi_formats.specs.Gives.{Gives};
-ghost use Rattle.sasi_manifest.specs.Edits.{files, files_of, is_current, is_new, is_taken, new_file_format, new_files, new_number, part, parts, removed_number, removed_numbers};
+ghost use Rattle.sasi_manifest.specs.Edits.{files, files_of, is_current, is_new, is_taken, new_file_format, new_files, new_number, numbers_at, parts, removed_number, removed_numbers};
 
-use crate::files::{ListedFile, ListedFiles, NumberList, PartNumber, PartNumbers};
+use crate::files::{ListedFile, ListedFiles, NumberList, PartNumbers};
 use crate::listed::ListedTables;
 use crate::new_files::NewFiles;
 use crate::number_set::NumberSet;
+use crate::read_part::ReadPart;
 use sasi_fields::FieldReader;
-use sasi_formats::{
-    FieldStart, FormatFault, ReadItem, read_items, read_u16, read_u32, read_u32_in_range,
-};
+use sasi_formats::{FieldStart, FormatFault, read_items, read_u16, read_u32, read_u32_in_range};
 use sasi_host::{DataNumber, FormatRule};
 use sasi_types::TableNumber;
 use std::alloc::Global;
@@ -26,7 +25,7 @@ pub fn read_files(
     ensures { Gives (read (files tables.now table) reader.old) result reader.new }
 {
     let removed = read_removed(alloc, reader, tables, table)?;
-    let added = read_added(alloc, reader, tables, &removed)?;
+    let added = read_added(alloc, reader, tables, table, &removed)?;
     Ok((removed.into_list(), added.into_files()))
 }
 
@@ -95,12 +94,13 @@ fn read_added(
     alloc: Global,
     reader: &mut FieldReader,
     tables: &ListedTables,
+    table: TableNumber,
     removed: &NumberSet,
 ) -> Result<NewFiles, FormatFault>
-    ensures { Gives (read (new_files tables.now removed.now) reader.old) result reader.new }
+    ensures { Gives (read (new_files tables.now table removed.now) reader.old) result reader.new }
 {
     let count = read_u32(reader)?;
-    read_each_added(alloc, reader, tables, removed, count)
+    read_each_added(alloc, reader, tables, table, removed, count)
 }
 
 // Reads so many files whose numbers are new.
@@ -108,14 +108,15 @@ fn read_each_added(
     alloc: Global,
     reader: &mut FieldReader,
     tables: &ListedTables,
+    table: TableNumber,
     removed: &NumberSet,
     count: u32,
 ) -> Result<NewFiles, FormatFault>
-    ensures { Gives (items_of (λ before. read (new_file_format tables.now removed.now before)) count [] reader.old) result reader.new }
+    ensures { Gives (items_of (λ before. read (new_file_format tables.now table removed.now before)) count [] reader.old) result reader.new }
 {
     let mut added = NewFiles::new(alloc);
     for _turn in 0..count {
-        let next = read_file(alloc, reader, tables, removed, &added)?;
+        let next = read_file(alloc, reader, tables, table, removed, &added)?;
         added = added.with(next)?;
     }
     Ok(added)
@@ -126,13 +127,14 @@ fn read_file(
     alloc: Global,
     reader: &mut FieldReader,
     tables: &ListedTables,
+    table: TableNumber,
     removed: &NumberSet,
     before: &NewFiles,
 ) -> Result<ListedFile, FormatFault>
-    ensures { Gives (read (new_file_format tables.now removed.now before.now) reader.old) result reader.new }
+    ensures { Gives (read (new_file_format tables.now table removed.now before.now) reader.old) result reader.new }
 {
     let number = read_number(reader, tables, removed, before)?;
-    let parts = read_parts(alloc, reader)?;
+    let parts = read_parts(alloc, reader, tables, table)?;
     Ok(ListedFile { number, parts })
 }
 
@@ -168,28 +170,15 @@ fn is_taken(tables: &ListedTables, removed: &NumberSet, number: DataNumber) -> b
 }
 
 // Reads the number of parts, and each of them.
-fn read_parts(alloc: Global, reader: &mut FieldReader) -> Result<PartNumbers, FormatFault>
-    ensures { Gives (read parts reader.old) result reader.new }
+fn read_parts(
+    alloc: Global,
+    reader: &mut FieldReader,
+    tables: &ListedTables,
+    table: TableNumber,
+) -> Result<PartNumbers, FormatFault>
+    ensures { Gives (read (parts (numbers_at tables.now table)) reader.old) result reader.new }
 {
     let count = read_u16(reader)?;
-    read_items(alloc, reader, usize::from(count), &ReadPart)
-}
-
-// Reads a part of an index. No index file is listed yet, so its number names none.
-#[derive(Drop)]
-struct ReadPart;
-
-impl ReadItem<PartNumber> for ReadPart {
-    ghost format = { λ _ _. part };
-
-    fn read(
-        &self,
-        _alloc: Global,
-        _before: &[PartNumber],
-        reader: &mut FieldReader,
-    ) -> Result<PartNumber, FormatFault> {
-        let start = FieldStart::of(reader);
-        let _index = read_u32(reader)?;
-        Err(start.broken(FormatRule::Number, 4))
-    }
+    let part = ReadPart { tables, table };
+    read_items(alloc, reader, usize::from(count), &part)
 }

@@ -43,7 +43,8 @@ fn push_defs(alloc: Global, defs: &mut Vec<IndexDef>, own: &[IndexDef]) -> Resul
     Ok(())
 }
 
-fn sort_by_number(defs: &mut Vec<IndexDef>) -> Result<(), AllocError>
+/// Sorts definitions by their numbers.
+pub fn sort_by_number(defs: &mut Vec<IndexDef>) -> Result<(), AllocError>
     ensures { OnOk result (defs.new.items ≡ by_number defs.old.items) }
 {
     defs.sort_by_key(|def| def.number)

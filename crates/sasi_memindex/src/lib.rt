@@ -21,3 +21,4 @@ pub use map_book::MapBook;
 pub use map_part::MapPart;
 pub use mem_index::MemIndex;
 pub use mem_indexes::MemIndexes;
+pub use terms::terms_of;

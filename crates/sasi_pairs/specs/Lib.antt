@@ -1,1 +1,4 @@
+pub mod SeenPairs
+pub mod Gathered
+pub mod PairViews
 pub mod SealedFiles

@@ -1,9 +1,15 @@
-//! Data files, with the index files that are to go with them, which one record of a manifest lists once they are durable. It
-//! stands on the writer of data files and on manifests, and promises that a crash leaves a whole file listed, or none of it.
+//! Data files with the index files that go with them, which one record of a manifest lists once they are durable. It stands on
+//! the writers of data files and index files and on manifests, and promises that a crash leaves all files of a data file
+//! listed, or none of them.
 #![tactic(auto)]
 
+mod builder;
+mod builders;
 mod durable;
+mod index_files;
+mod push;
 mod sealed;
+mod seen;
 mod writer;
 
 pub use sasi_datawrite::PairFault;

@@ -94,16 +94,16 @@ module _ (v : View) (folder : Folder) (files : v.files ≡ Some folder) where
 -- ---- a segment of the log
 
 -- damage that a live segment shows as it reads, once other files were deleted
-pub segment_shown : (a b : View) (folder : Folder) (number : ℕ) (listing : Listing) (numbers : List ℕ) (fault : ReadFault) → a.files ≡ Some folder
+pub segment_shown : (a b : View) (folder : Folder) (number : ℕ) (listing : Listing) (wanted : List FileName) (fault : ReadFault) → a.files ≡ Some folder
     → IsThere a (manifest_name number) → ReadsListing a number listing
-    → Changes (Deletes (keeps (KeepStore number listing.floor listing.last) numbers)) a b → LiveSegmentsExist b listing → ReplayShowsDamage b listing fault
+    → Changes (Deletes (keeps (KeepStore number listing.floor listing.last) wanted)) a b → LiveSegmentsExist b listing → ReplayShowsDamage b listing fault
     → OnDamage (ShowsManifestOrListed folder number) fault
-segment_shown a b folder number listing numbers Failed files there reads deletes live shown = tt
-segment_shown a b folder number listing numbers OutOfMemory files there reads deletes live shown = tt
-segment_shown a b folder number listing numbers (Damaged damage) files there reads deletes live (segment, above, below, shown) =
+segment_shown a b folder number listing wanted Failed files there reads deletes live shown = tt
+segment_shown a b folder number listing wanted OutOfMemory files there reads deletes live shown = tt
+segment_shown a b folder number listing wanted (Damaged damage) files there reads deletes live (segment, above, below, shown) =
     let manifest = bytes_there a folder (manifest_name number) files there in
     let now = deletes.seen folder files in
-    let kept = keeps_segment number listing.floor listing.last numbers segment above below in
+    let kept = keeps_segment number listing.floor listing.last wanted segment above below in
     let same : get now.0 (log_name segment) ≡ get folder (log_name segment) = unless_kept _ _ _ kept (now.2 (log_name segment)) in
     let bytes = bytes_there b now.0 (log_name segment) now.1 (live segment above below) in
     broken_log manifest.0 listing manifest.1 (reads manifest.0 (reads_of a folder (manifest_name number) manifest.0 files manifest.1))

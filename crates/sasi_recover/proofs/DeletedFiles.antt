@@ -1,16 +1,15 @@
 -- Folders from which files are deleted.
-use Rattle.std.proofs.Common.{◌≡◌, ◌≢◌, ℕ, ◌+◌, ◌≤◌, ◌<◌, ◌||◌, ◌&&◌, Bool, true, false, List, [], ◌∷◌, length, take, drop, get_or, All, Option, Some, None, IsSome, is_some, refl, sym, ◌∙◌, ap, subst, inl, inr, ⊎_elim, arith, add-one}
+use Rattle.std.proofs.Common.{◌≡◌, ◌≢◌, ℕ, ◌+◌, ◌≤◌, ◌<◌, ◌||◌, Bool, true, false, List, [], ◌∷◌, length, take, drop, get_or, All, Contains, Option, Some, None, IsSome, is_some, refl, sym, ◌∙◌, ap, subst, inl, inr, ⊎_elim, arith, add-one}
 use Rattle.std.proofs.Math.Seq.{drop-cons}
 use Rattle.std.proofs.lemmas.Bool.Decides.{nat_tests}
 use Rattle.std.proofs.lemmas.List.Elements.{All-more, All-weaker, All-contains, recursion_from_All}
-use Rattle.std.specs.List.{AllByRecursion}
+use Rattle.std.specs.List.{AllByRecursion, list_any}
 use Rattle.std.specs.List.Sorted.{IsStrictlySortedBy}
 use Rattle.std.specs.Ordering.{is_eq}
 use Rattle.std.specs.declared.cmp.Ordering.TheVariants.{Less}
 use Rattle.std.specs.FinMap.{get}
 use Rattle.sasi_host.specs.declared.name.FileName.{FileName}
-use Rattle.sasi_host.specs.Names.{Bytes, Folder, data_name, name_cmp, name_eq, log_name, manifest_name, seal_name}
-use Rattle.sasi_manifest.specs.ListedFiles.{is_among}
+use Rattle.sasi_host.specs.Names.{Bytes, Folder, name_cmp, name_eq, log_name, manifest_name, seal_name}
 use Rattle.sasi_host.proofs.NameCases.{name_cases}
 use Rattle.sasi_host.specs.NameLaws.{test_here}
 use Rattle.sasi_host.specs.View.{View, IsAbsent, IsThere, contents, contents_in}
@@ -22,6 +21,7 @@ use Rattle.sasi_recover.specs.declared.unlisted_files.Keep.TheVariants.{Store}
 use Rattle.sasi_layout.specs.Kept.{has_segment}
 use Rattle.sasi_recover.specs.Deletion.{DeletedUnless, Deletes, keeps}
 use Rattle.sasi_recover.specs.Opening.{KeepsStore}
+use Rattle.sasi_recover.proofs.NameLists.{any_of}
 use Rattle.sasi_recover.proofs.SyncedFolder.{listed_there}
 
 -- ---- one file
@@ -170,69 +170,64 @@ deletes_kept a b kept name bytes is change has x now =
     let same : get x name ≡ get was.0 name = subst (λ (k : Bool). DeletedUnless k (get was.0 name) (get x name)) is (was.2 name) in
     same ∙ has was.0 was.1
 
-or_first : (a b c d : Bool) → a ≡ true → (a || b || c || d) ≡ true
+or_first : (a b c d : Bool) → a ≡ true → (a || (b || (c || d))) ≡ true
 or_first true b c d is = refl
 or_first false b c d is = cc
 
-or_second : (a b c d : Bool) → b ≡ true → (a || b || c || d) ≡ true
+or_second : (a b c d : Bool) → b ≡ true → (a || (b || (c || d))) ≡ true
 or_second true b c d is = refl
 or_second false true c d is = refl
 or_second false false c d is = cc
 
-or_third : (a b c d : Bool) → c ≡ true → (a || b || c || d) ≡ true
+or_third : (a b c d : Bool) → c ≡ true → (a || (b || (c || d))) ≡ true
 or_third true b c d is = refl
 or_third false true c d is = refl
 or_third false false true d is = refl
 or_third false false false d is = cc
 
-or_fourth : (a b c d : Bool) → d ≡ true → (a || b || c || d) ≡ true
+or_fourth : (a b c d : Bool) → d ≡ true → (a || (b || (c || d))) ≡ true
 or_fourth true b c d is = refl
 or_fourth false true c d is = refl
 or_fourth false false true d is = refl
 or_fourth false false false d is = is
 
-and_right : (a b : Bool) → a ≡ true → b ≡ true → (a && b) ≡ true
-and_right true b first second = second
-and_right false b first second = cc
-
-pub keeps_manifest : (number floor last : ℕ) (numbers : List ℕ) → keeps (Store number floor last) numbers (manifest_name number) ≡ true
-keeps_manifest number floor last numbers =
+pub keeps_manifest : (number floor last : ℕ) (files : List FileName) → keeps (Store number floor last) files (manifest_name number) ≡ true
+keeps_manifest number floor last files =
     let own : name_eq (manifest_name number) (manifest_name number) ≡ true = grind (arith, nat_tests) in
-    or_first (name_eq (manifest_name number) (manifest_name number)) _ _ _ own
+    or_first (name_eq (manifest_name number) (manifest_name number)) (name_eq (manifest_name number) (seal_name number)) (has_segment floor last (manifest_name number)) (list_any (name_eq (manifest_name number)) files) own
 
-pub keeps_seal : (number floor last : ℕ) (numbers : List ℕ) → keeps (Store number floor last) numbers (seal_name number) ≡ true
-keeps_seal number floor last numbers =
+pub keeps_seal : (number floor last : ℕ) (files : List FileName) → keeps (Store number floor last) files (seal_name number) ≡ true
+keeps_seal number floor last files =
     let own : name_eq (seal_name number) (seal_name number) ≡ true = grind (arith, nat_tests) in
-    or_second (name_eq (seal_name number) (manifest_name number)) (name_eq (seal_name number) (seal_name number)) _ _ own
+    or_second (name_eq (seal_name number) (manifest_name number)) (name_eq (seal_name number) (seal_name number)) (has_segment floor last (seal_name number)) (list_any (name_eq (seal_name number)) files) own
 
-pub keeps_segment : (number floor last : ℕ) (numbers : List ℕ) (segment : ℕ) → floor ≤ segment → segment ≤ last → keeps (Store number floor last) numbers (log_name segment) ≡ true
-keeps_segment number floor last numbers segment above below =
+pub keeps_segment : (number floor last : ℕ) (files : List FileName) (segment : ℕ) → floor ≤ segment → segment ≤ last → keeps (Store number floor last) files (log_name segment) ≡ true
+keeps_segment number floor last files segment above below =
     let own : has_segment floor last (log_name segment) ≡ true = grind (arith, nat_tests, above, below) in
-    or_third (name_eq (log_name segment) (manifest_name number)) (name_eq (log_name segment) (seal_name number)) (has_segment floor last (log_name segment)) _ own
+    or_third (name_eq (log_name segment) (manifest_name number)) (name_eq (log_name segment) (seal_name number)) (has_segment floor last (log_name segment)) (list_any (name_eq (log_name segment)) files) own
 
-pub keeps_data : (number floor last : ℕ) (numbers : List ℕ) (n : ℕ) → is_among numbers n ≡ true → keeps (Store number floor last) numbers (data_name n) ≡ true
-keeps_data number floor last numbers n listed = or_fourth (name_eq (data_name n) (manifest_name number)) (name_eq (data_name n) (seal_name number)) (has_segment floor last (data_name n)) _
-    (and_right (name_eq (data_name n) (data_name n)) (is_among numbers n) (grind (arith, nat_tests)) listed)
+pub keeps_listed : (number floor last : ℕ) (files : List FileName) (name : FileName) → Contains files name → keeps (Store number floor last) files name ≡ true
+keeps_listed number floor last files name has = or_fourth (name_eq name (manifest_name number)) (name_eq name (seal_name number)) (has_segment floor last name) (list_any (name_eq name) files) (any_of files name has)
 
 pub unless_kept : (kept : Bool) (a b : Option Bytes) → kept ≡ true → DeletedUnless kept a b → b ≡ a
 unless_kept true a b is same = same
 unless_kept false a b is either = cc
 
 -- what the store has there stays
-pub deletes_store : (number floor last : ℕ) (numbers : List ℕ) (x y : Folder) → Deletes (keeps (Store number floor last) numbers) x y → KeepsStore number floor last x y
-deletes_store number floor last numbers x y deletes =
-    let same = λ (name : FileName) (is : keeps (Store number floor last) numbers name ≡ true). unless_kept _ (get x name) (get y name) is (deletes name) in
+pub deletes_store : (number floor last : ℕ) (files : List FileName) (x y : Folder) → Deletes (keeps (Store number floor last) files) x y → KeepsStore number floor last x y
+deletes_store number floor last files x y deletes =
+    let same = λ (name : FileName) (is : keeps (Store number floor last) files name ≡ true). unless_kept _ (get x name) (get y name) is (deletes name) in
     record {
-      seal = ap (λ (o : Option Bytes). is_some o) (same (seal_name number) (keeps_seal number floor last numbers));
-      higher = λ other above. none_stays (keeps (Store number floor last) numbers (seal_name other)) (get x (seal_name other))
+      seal = ap (λ (o : Option Bytes). is_some o) (same (seal_name number) (keeps_seal number floor last files));
+      higher = λ other above. none_stays (keeps (Store number floor last) files (seal_name other)) (get x (seal_name other))
           (get y (seal_name other)) (deletes (seal_name other));
-      manifest = same (manifest_name number) (keeps_manifest number floor last numbers);
-      logs = λ segment above below. same (log_name segment) (keeps_segment number floor last numbers segment above below);
+      manifest = same (manifest_name number) (keeps_manifest number floor last files);
+      logs = λ segment above below. same (log_name segment) (keeps_segment number floor last files segment above below);
     }
 
--- and so do its data files
-pub deletes_data : (number floor last : ℕ) (numbers : List ℕ) (x y : Folder) (n : ℕ) → is_among numbers n ≡ true → Deletes (keeps (Store number floor last) numbers) x y → get y (data_name n) ≡ get x (data_name n)
-deletes_data number floor last numbers x y n listed deletes = unless_kept _ (get x (data_name n)) (get y (data_name n)) (keeps_data number floor last numbers n listed) (deletes (data_name n))
+-- and so do its listed files
+pub deletes_listed : (number floor last : ℕ) (files : List FileName) (x y : Folder) (name : FileName) → Contains files name → Deletes (keeps (Store number floor last) files) x y → get y name ≡ get x name
+deletes_listed number floor last files x y name has deletes = unless_kept _ (get x name) (get y name) (keeps_listed number floor last files name has) (deletes name)
 
 -- a new folder stays new
 pub deletes_fresh : (kept : FileName → Bool) (x y : Folder) → Deletes kept x y → IsFresh x → IsFresh y

@@ -52,7 +52,7 @@ module _ (a b c : View) (p : Partitioner) (none : (name : FileName) → IsAbsent
       (ap (λ (o : Option Bytes). is_some o) (sealed (still_unsealed sound_a synced) folder (sound_c.reads folder files)))
       (λ segment above below. (let one : segment ≡ 1 = omega (arith, above, below) in subst (λ n. IsSome (get folder (log_name n))) (sym one) (there (log_name 1) (log told).0 (log told).1)))
       (λ n is. cc)
-      (λ name other. sym (reads name) ∙ others_absent name (keeps_is 1 (new_listing p) [] name (λ n. refl) ∙ other))
+      (λ name other. sym (reads name) ∙ others_absent name (keeps_is 1 (new_listing p) [] name refl ∙ other))
     where
       reads : (name : FileName) → contents c name ≡ get folder name
       reads name = ap (λ (o : Option Folder). contents_in o name) files

@@ -2,8 +2,6 @@
 use Rattle.std.proofs.Common.{◌≡◌, ◌≢◌, ◌⊎◌, ℕ, zero, suc, ◌+◌, ◌<◌, ◌≤◌, IsTrue, true, List, [], ◌∷◌, ◌++◌, length, map, All, Contains, Option, Some, None, IsSome, is_some, unwrap_or, Ok, Err, IfOk, OnOk, refl, sym, ◌∙◌, ap, subst, inl, inr, ⊎_elim, arith}
 use Rattle.std.specs.Prelude.{max}
 use Rattle.std.specs.FinMap.{get}
-use Rattle.std.specs.List.Sorted.{IsNonDecreasing}
-use Rattle.sasi_manifest.specs.ListedFiles.{is_among}
 use Rattle.std.specs.declared.result.Result.{Result}
 use Rattle.sasi_types.specs.declared.partitioner.Partitioner.{Partitioner}
 use Rattle.sasi_types.specs.declared.partitioner.Partitioner.TheVariants.{Lead8}
@@ -11,7 +9,7 @@ use Rattle.sasi_host.specs.declared.fault.ReadFault.{ReadFault}
 use Rattle.sasi_host.specs.declared.fault.ReadFault.TheVariants as read_fault
 use Rattle.sasi_host.specs.declared.name.FileName.{FileName}
 use Rattle.sasi_host.specs.Damages.{OnDamage}
-use Rattle.sasi_host.specs.Names.{Bytes, Folder, data_name, log_name, manifest_name, seal_name}
+use Rattle.sasi_host.specs.Names.{Bytes, Folder, log_name, manifest_name, seal_name}
 use Rattle.sasi_host.specs.View.{View, IsSound, IsThere, IsTold, Reaches, contents, contents_in}
 use Rattle.sasi_host.specs.Disk.{Changes, IsFileDurable, Lists, Same, Each}
 use Rattle.sasi_host.proofs.ContentLaws.{contents_same, reaches_where, there_where, told_after, told_before, told_files}
@@ -28,7 +26,7 @@ use Rattle.sasi_manifest.proofs.Laws.{manifest_stays}
 use Rattle.sasi_folder.proofs.FolderLaws.{kinds_apart, segments_kept}
 use Rattle.sasi_folder.specs.Opens.{CanOpen, KeepsPartitioner, KeepsUnder, Opens}
 use Rattle.sasi_folder.specs.FolderContents.{HasSegments, IsFresh, IsSealed, types_listed}
-use Rattle.sasi_layout.specs.Kept.{HasKept, is_listed}
+use Rattle.sasi_layout.specs.Kept.{HasKept}
 use Rattle.sasi_layout.specs.Layout.{Layout, listed_of, listing_of, state_of, used_in}
 use Rattle.sasi_model.specs.State.{max_timestamp}
 use Rattle.sasi_layout.specs.Serving.{AreNumbered, CanChange, Serves}
@@ -52,13 +50,13 @@ use Rattle.sasi_recover.specs.Opening.{IsFolderDurable, IsHighestSeal, KeepsStor
 use Rattle.sasi_recover.specs.Replaying.{KeepsSegments, NoFalseReplayDamage, ReadsAll, Replays}
 use Rattle.sasi_recover.specs.ReplayState.{IsReplayOf, ReplayState, replayed_state, tables_time}
 use Rattle.sasi_recover.specs.SealedFolder.{AreListedFiles, IsChecked, IsManifestRead, kept_with}
-use Rattle.sasi_recover.proofs.DeletedFiles.{deletes_kept, deletes_store, keeps_data, keeps_manifest, keeps_seal, keeps_segment, unless_kept}
+use Rattle.sasi_recover.proofs.DeletedFiles.{deletes_kept, deletes_store, keeps_listed, keeps_manifest, keeps_seal, keeps_segment, unless_kept}
 use Rattle.sasi_recover.proofs.KeptFiles.{has_kept, keeps_is}
-use Rattle.sasi_recover.proofs.KeptShapes.{bytes_of_file, file_of_shape, shape_where_kept}
+use Rattle.sasi_recover.proofs.KeptShapes.{agree_where, file_of_shape, shape_where_kept}
 use Rattle.sasi_recover.proofs.OpenedStore.{consistent_in_order, data_fits, definitions_are, indexes_numbered, maps_in_memory, shape_bare, shape_in_order, tables_ready}
 use Rattle.sasi_recover.proofs.PerTable.{maps_of, replayed_maps}
 use Rattle.sasi_recover.proofs.SealedStore.{bytes_there, contents_left, held_is_listed, listed_is_there, manifest_room, manifest_stands, reads_of}
-use Rattle.sasi_recover.proofs.Checking.{among_of, among_shape, listing_is, of_among, shape_has}
+use Rattle.sasi_recover.proofs.Checking.{among_shape, in_list, listing_is, shape_has}
 use Rattle.sasi_recover.proofs.ShapeTimes.{shape_time}
 use Rattle.sasi_recover.proofs.SyncedFolder.{durable_kept, durable_store, there_same}
 
@@ -119,37 +117,36 @@ keeps_on x y z number floor last first second = record {
   logs = λ segment above below. second.logs segment above below ∙ first.logs segment above below;
 }
 
-module _ (a c : View) (m : ManifestState) (numbers : List ℕ) (time : ℕ) (names : List FileName) (lists : Lists a names) (sound : IsSound a) (durable : IsFolderDurable a) (read : IsManifestRead a m) (listed : AreListedFiles m.listing numbers)
-    (checked : IsChecked a c m numbers time) where
+module _ (a c : View) (m : ManifestState) (wanted : List FileName) (time : ℕ) (names : List FileName) (lists : Lists a names) (sound : IsSound a) (durable : IsFolderDurable a) (read : IsManifestRead a m) (listed : AreListedFiles m.listing wanted)
+    (checked : IsChecked a c m wanted time) where
   -- ---- the shape, in each image
 
   module _ (folder : Folder) (files : a.files ≡ Some folder) (l : Layout) (logs : List (List Mutation)) (number : l.used.manifest ≡ m.number) (has : HasShape folder l logs) where
     told_c : IsTold c
-    told_c = told_after (Deletes (kept_with m numbers)) a c checked.deletes (ap (λ (o : Option Folder). is_some o) files)
+    told_c = told_after (Deletes (kept_with m wanted)) a c checked.deletes (ap (λ (o : Option Folder). is_some o) files)
 
     lists_l : m.listing ≡ listing_of l
-    lists_l = listing_is a names m numbers lists read listed folder files l logs number has
+    lists_l = listing_is a names m wanted lists read listed folder files l logs number has
 
     pub each_shape : Each c (λ x. HasShape x l logs)
     each_shape y now =
         let from = checked.deletes.image y now in
         let stays : KeepsStore m.number m.listing.floor m.listing.last folder y = keeps_on folder from.0 y m.number m.listing.floor m.listing.last
         (durable_store a sound durable folder files from.0 from.1 m.number m.listing.floor m.listing.last)
-        (deletes_store m.number m.listing.floor m.listing.last numbers from.0 y from.2) in
+        (deletes_store m.number m.listing.floor m.listing.last wanted from.0 y from.2) in
         shape_where_kept folder y l logs (rw number (subst (λ (e : Listing). KeepsStore m.number e.floor e.last folder y) lists_l stays))
-        (λ k is. (
-        let file = file_of_shape folder l logs k has is in
-        let bytes = bytes_of_file folder l.partitioner k file in
-        checked.durable k file.has.bytes (among_shape a names m numbers lists read listed folder files l logs number has k is) (reads_of a folder (data_name k) file.has.bytes files bytes) y now ∙ sym bytes
-        )) has
+        (agree_where folder y l (λ name is. (
+        let file = file_of_shape folder l logs name has is in
+        checked.durable name file.bytes (among_shape a names m wanted lists read listed folder files l logs number has name is) (reads_of a folder name file.bytes files file.there) y now ∙ sym file.there
+        ))) has
 
     pub live_kept : KeepsSegments c (types_listed m.listing) m.listing.floor logs
     live_kept =
         subst (λ (e : Listing). KeepsSegments c (types_listed e) e.floor logs) (sym lists_l)
         (keeps_segments c folder (types_listed (listing_of l)) l.floor logs
         (λ segment bytes above below is.
-        deletes_kept a c (kept_with m numbers) (log_name segment) bytes
-        (keeps_segment m.number m.listing.floor m.listing.last numbers segment (omega (arith, above, ap (λ (e : Listing). e.floor) lists_l)) (omega (arith, below, has.live, ap (λ (e : Listing). e.last) lists_l))) checked.deletes
+        deletes_kept a c (kept_with m wanted) (log_name segment) bytes
+        (keeps_segment m.number m.listing.floor m.listing.last wanted segment (omega (arith, above, ap (λ (e : Listing). e.floor) lists_l)) (omega (arith, below, has.live, ap (λ (e : Listing). e.last) lists_l))) checked.deletes
         (durable_kept a sound durable (log_name segment) bytes refl (reads_of a folder (log_name segment) bytes files is)))
         has.segments)
 
@@ -174,10 +171,10 @@ module _ (a c : View) (m : ManifestState) (numbers : List ℕ) (time : ℕ) (nam
         let kept_manifest = durable_kept a sound durable (manifest_name m.number) (bytes_there a folder (manifest_name m.number) files read.there).0 refl
         (reads_of a folder (manifest_name m.number) (bytes_there a folder (manifest_name m.number) files read.there).0 files (bytes_there a folder (manifest_name m.number) files read.there).1) in
         let at_a = read.stands (bytes_there a folder (manifest_name m.number) files read.there).0 (ap (λ (o : Option Folder). is_some o) files) kept_manifest in
-        let at_c = manifest_stands a c m.number m.listing numbers checked.deletes m.at at_a in
+        let at_c = manifest_stands a c m.number m.listing wanted checked.deletes m.at at_a in
         let bare_is = shape_bare folder l logs has in
         let time_is : max time state.max_timestamp ≡ max_timestamp (state_of l) = ap (max time) (is_replay.time ∙ ap tables_time maps)
-        ∙ shape_time a folder l logs numbers time files has (among_shape a names m numbers lists read listed folder files l logs number has) (shape_has a names m numbers lists read listed folder files l logs number has) checked.tells in
+        ∙ shape_time a folder l logs wanted time files has (among_shape a names m wanted lists read listed folder files l logs number has) (shape_has a names m wanted lists read listed folder files l logs number has) checked.tells in
         record {
           told = told_after Same c e same told_c;
           in_order = shape_in_order folder l logs has (subst IsConsistent lists_l read.consistent);
@@ -220,7 +217,7 @@ module _ (a c : View) (m : ManifestState) (numbers : List ℕ) (time : ℕ) (nam
     timestamp = omega (arith, greatest_is, checked.tells.limit, is_replay.limit);
     log_file = file_is;
     manifest_room = reaches_where c e Same (manifest_name m.number) (m.at + 1) same (contents_same c e (manifest_name m.number) same)
-        (manifest_room a c m.number m.listing numbers checked.deletes (m.at + 1) read.room);
+        (manifest_room a c m.number m.listing wanted checked.deletes (m.at + 1) read.room);
     log_room = subst (λ (f : FileName). Reaches e f (opened.log.at + 1)) (sym file_is) log_room;
     manifest_usable = read.usable;
     log_usable = log_usable;
@@ -230,22 +227,22 @@ module _ (a c : View) (m : ManifestState) (numbers : List ℕ) (time : ℕ) (nam
     where
       manifest_now : (e : View) → Changes Same c e → IsTold e → ManifestStands e m.number m.at m.listing
       manifest_now e same told =
-          let told_a = told_before (Deletes (kept_with m numbers)) a c checked.deletes (told_before Same c e same told) in
+          let told_a = told_before (Deletes (kept_with m wanted)) a c checked.deletes (told_before Same c e same told) in
           let folder = told_files a told_a in
           let bytes = bytes_there a folder.0 (manifest_name m.number) folder.1 read.there in
           manifest_stays c e m.number m.at m.listing (λ bytes. file_durable_same c e (manifest_name m.number) bytes same)
-          (manifest_stands a c m.number m.listing numbers checked.deletes m.at (read.stands bytes.0 told_a (durable_kept a sound durable (manifest_name m.number) bytes.0 refl (reads_of a folder.0 (manifest_name m.number) bytes.0 folder.1 bytes.1))))
+          (manifest_stands a c m.number m.listing wanted checked.deletes m.at (read.stands bytes.0 told_a (durable_kept a sound durable (manifest_name m.number) bytes.0 refl (reads_of a folder.0 (manifest_name m.number) bytes.0 folder.1 bytes.1))))
 
       kept_now : (e : View) → Changes Same c e → (folder : Folder) → e.files ≡ Some folder → HasKept (record { manifest = m.number; listing = m.listing }) folder
       kept_now e same folder files = has_kept (record { manifest = m.number; listing = m.listing }) folder
-          (here (manifest_name m.number) (stays (manifest_name m.number) (keeps_manifest m.number m.listing.floor m.listing.last numbers) read.there))
-          (here (seal_name m.number) (stays (seal_name m.number) (keeps_seal m.number m.listing.floor m.listing.last numbers) read.sealed))
+          (here (manifest_name m.number) (stays (manifest_name m.number) (keeps_manifest m.number m.listing.floor m.listing.last wanted) read.there))
+          (here (seal_name m.number) (stays (seal_name m.number) (keeps_seal m.number m.listing.floor m.listing.last wanted) read.sealed))
           (λ segment above below. here (log_name segment) (checked.live segment above below))
-          (λ n is. (
-          let has = of_among numbers n (listed.listed n ∙ is) in
-          here (data_name n) (stays (data_name n) (keeps_data m.number m.listing.floor m.listing.last numbers n (among_of numbers n has)) (checked.there n has))
+          (λ name is. (
+          let has = in_list a names m wanted lists read listed name is in
+          here name (stays name (keeps_listed m.number m.listing.floor m.listing.last wanted name has) (checked.there name has))
           ))
-          (λ name other. sym (is_here name) ∙ checked.gone name (keeps_is m.number m.listing numbers name listed.listed ∙ other))
+          (λ name other. sym (is_here name) ∙ checked.gone name (keeps_is m.number m.listing wanted name (listed.listed name) ∙ other))
         where
           is_here : (name : FileName) → contents c name ≡ get folder name
           is_here name = sym (contents_same c e name same) ∙ ap (λ (o : Option Folder). contents_in o name) files
@@ -253,8 +250,8 @@ module _ (a c : View) (m : ManifestState) (numbers : List ℕ) (time : ℕ) (nam
           here : (name : FileName) → IsThere c name → IsSome (get folder name)
           here name there = subst (λ (o : Option Bytes). IsSome o) (is_here name) (there (told_before Same c e same (ap (λ (o : Option Folder). is_some o) files)))
 
-          stays : (name : FileName) → kept_with m numbers name ≡ true → IsThere a name → IsThere c name
-          stays name is there = there_where a c (Deletes (kept_with m numbers)) name checked.deletes (contents_left a c (kept_with m numbers) name is checked.deletes) there
+          stays : (name : FileName) → kept_with m wanted name ≡ true → IsThere a name → IsThere c name
+          stays name is there = there_where a c (Deletes (kept_with m wanted)) name checked.deletes (contents_left a c (kept_with m wanted) name is checked.deletes) there
 
   -- what was read of the folder
   pub opened_opens : (e : View) (state : ReplayState) (folder : Folder) → a.files ≡ Some folder → IsSealed folder m.number → ReadsAll c m.listing state → Opens folder
@@ -272,14 +269,14 @@ module _ (a c : View) (m : ManifestState) (numbers : List ℕ) (time : ℕ) (nam
           live = read_all.count;
           segments = segments_kept now.0 folder (types_listed m.listing) m.listing.floor read_all.logs
               (λ segment above below. sym
-              (unless_kept _ _ _ (keeps_segment m.number m.listing.floor m.listing.last numbers segment above (omega (arith, below, read_all.count)))
+              (unless_kept _ _ _ (keeps_segment m.number m.listing.floor m.listing.last wanted segment above (omega (arith, below, read_all.count)))
               (now.2 (log_name segment))))
               read_all.segments;
         };
-        files = λ n is. (
-            let has = of_among numbers n (listed.listed n ∙ is) in
-            let file = bytes_there a folder (data_name n) files (checked.there n has) in
-            (file.0, file.1, checked.ends n has file.0 (reads_of a folder (data_name n) file.0 files file.1))
+        files = λ name is. (
+            let has = in_list a names m wanted lists read listed name is in
+            let file = bytes_there a folder name files (checked.there name has) in
+            (file.0, file.1, checked.ends name has file.0 (reads_of a folder name file.0 files file.1))
             );
       }
 
@@ -291,12 +288,9 @@ any_then_same a b c first second = changes_on a b c AnyFolderChange Same AnyFold
 pub same_then_any : (a b c : View) → Changes Same a b → Changes AnyFolderChange b c → Changes AnyFolderChange a c
 same_then_any a b c first second = changes_on a b c Same AnyFolderChange AnyFolderChange first second (λ x y is. tt) (λ x y z is s. tt)
 
--- the numbers of the files that a manifest lists
-pub listed_files : (m : ManifestState) (listing : Listing) (items numbers : List ℕ) → listing ≡ m.listing → numbers ≡ items → IsNonDecreasing items → ((n : ℕ) → is_among items n ≡ is_listed listing.tables n) → AreListedFiles m.listing numbers
-listed_files m listing items numbers listing_is numbers_are sorted listed = rw numbers_are (record {
-  sorted = sorted;
-  listed = λ n. listed n ∙ ap (λ (l : Listing). is_listed l.tables n) listing_is;
-})
+-- the names of the files that a manifest lists
+pub listed_files : (m : ManifestState) (listing : Listing) (items wanted : List FileName) → listing ≡ m.listing → wanted ≡ items → AreListedFiles listing items → AreListedFiles m.listing wanted
+listed_files m listing items wanted listing_is wanted_is are = rw wanted_is (subst (λ (l : Listing). AreListedFiles l items) listing_is are)
 
 -- a manifest that was opened, as the folder reads afterwards
 pub manifest_is_read : (a b : View) (m : ManifestState) (number : ℕ) → IsSound a → IsSound b → IsFolderDurable a → Changes Same a b → m.number ≡ number → IsThere a (manifest_name number) → IsThere a (seal_name number) → ReadsListing a number m.listing

@@ -1,8 +1,8 @@
 pub mod Damaged
-pub mod DataEnds
 pub mod DeletedFiles
 pub mod Differences
 pub mod EmptyTables
+pub mod EndLaws
 pub mod FirstFiles
 pub mod FirstStore
 pub mod FolderOpening
@@ -12,8 +12,8 @@ pub mod HighestSeal
 pub mod KeptFiles
 pub mod KeptShapes
 pub mod ListedFiles
-pub mod ListedNumbers
 pub mod MissingLaws
+pub mod NameLists
 pub mod OpenedState
 pub mod OpenedStore
 pub mod PerTable

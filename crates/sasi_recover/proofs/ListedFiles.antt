@@ -28,11 +28,11 @@ of_same x y name same = ap (λ (f : Folder). get f name) same
 pub all_same : (a b : View) (k : Kept) → Changes Same a b → Changes (KeepsAll k) a b
 all_same a b k same = changes_as a b Same (KeepsAll k) same (λ x y is name kept. of_same x y name is)
 
-pub all_deleting : (a b c : View) (m : ManifestState) (numbers : List ℕ) → AreListedFiles m.listing numbers → Changes Same a b → Changes (Deletes (kept_with m numbers)) b c → Changes (KeepsAll (kept_under m)) a c
-all_deleting a b c m numbers listed same deletes =
-    changes_on a b c Same (Deletes (kept_with m numbers)) (KeepsAll (kept_under m)) same deletes (λ x y is name kept. of_same x y name is)
+pub all_deleting : (a b c : View) (m : ManifestState) (wanted : List FileName) → AreListedFiles m.listing wanted → Changes Same a b → Changes (Deletes (kept_with m wanted)) b c → Changes (KeepsAll (kept_under m)) a c
+all_deleting a b c m wanted listed same deletes =
+    changes_on a b c Same (Deletes (kept_with m wanted)) (KeepsAll (kept_under m)) same deletes (λ x y is name kept. of_same x y name is)
     (λ x y z is step name kept.
-    unless_kept (kept_with m numbers name) (get y name) (get z name) (keeps_is m.number m.listing numbers name listed.listed ∙ kept) (step name) ∙ of_same x y name is)
+    unless_kept (kept_with m wanted name) (get y name) (get z name) (keeps_is m.number m.listing wanted name (listed.listed name) ∙ kept) (step name) ∙ of_same x y name is)
 
 -- ---- what the manifest of a number keeps
 

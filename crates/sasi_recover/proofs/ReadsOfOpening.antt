@@ -1,5 +1,5 @@
 -- How often an opening reads the host, over its parts.
-use Rattle.std.proofs.Common.{◌≡◌, ℕ, zero, suc, ◌+◌, ◌*◌, ◌-◌, ◌<◌, ◌≤◌, List, length, Option, Some, None, IsSome, refl, sym, ◌∙◌, ap, subst, inl, inr, ⊎_elim, is_some, arith}
+use Rattle.std.proofs.Common.{◌≡◌, ℕ, zero, suc, ◌+◌, ◌*◌, ◌-◌, ◌<◌, ◌≤◌, List, Option, Some, None, IsSome, refl, sym, ◌∙◌, ap, subst, inl, inr, ⊎_elim, is_some, arith}
 use Rattle.std.specs.FinMap.{get}
 use Rattle.sasi_host.specs.declared.name.FileName.{FileName}
 use Rattle.sasi_host.specs.Names.{Bytes, Folder, log_name, manifest_name}
@@ -11,7 +11,7 @@ use Rattle.sasi_manifest.specs.declared.listing.Listing.{Listing}
 use Rattle.sasi_manifest.specs.Reading.{ReadsListing}
 use Rattle.sasi_manifest.specs.OpenManifest.{ManifestState}
 use Rattle.sasi_recover.specs.SealedFolder.{IsChecked}
-use Rattle.sasi_recover.specs.OpeningReads.{data_count, file_reads, segment_reads, live_reads, OpensReadingOnce, ReadsFileOnce, ReadsListedOnce, ReadsListingOnce, ReadsLiveOnce, ReadsStoreOnce}
+use Rattle.sasi_recover.specs.OpeningReads.{data_count, ends_reads, file_reads, index_count, segment_reads, live_reads, OpensReadingOnce, ReadsFileOnce, ReadsListedOnce, ReadsListingOnce, ReadsLiveOnce, ReadsStoreOnce}
 use Rattle.sasi_recover.proofs.DeletedFiles.{keeps_segment, unless_kept}
 use Rattle.sasi_recover.proofs.SealedStore.{bytes_there, reads_of}
 
@@ -72,13 +72,13 @@ once_in : (a b : View) (folder : Folder) (file : FileName) → a.files ≡ Some 
 once_in a b folder file files once = subst (λ (o : Option Folder). b.reads ≤ a.reads + file_reads (contents_in o file)) files
     (once (ap (λ (o : Option Folder). is_some o) files))
 
--- the ends of the data files were read, other files were deleted, and the live segments were read
-pub listing_read : (a b c : View) (folder : Folder) (m : ManifestState) (numbers : List ℕ) (time : ℕ) → a.files ≡ Some folder → IsChecked a b m numbers time → length numbers ≡ data_count m.listing.tables
-    → b.reads ≤ a.reads + 2 * length numbers → ReadsLiveOnce b c m.listing → ReadsListingOnce folder m.listing a c
-listing_read a b c folder m numbers time files checked count first live =
+-- the ends of the listed files were read, other files were deleted, and the live segments were read
+pub listing_read : (a b c : View) (folder : Folder) (m : ManifestState) (wanted : List FileName) (time : ℕ) → a.files ≡ Some folder → IsChecked a b m wanted time → ends_reads wanted ≡ 2 * data_count m.listing.tables + 3 * index_count m.listing.tables
+    → b.reads ≤ a.reads + ends_reads wanted → ReadsLiveOnce b c m.listing → ReadsListingOnce folder m.listing a c
+listing_read a b c folder m wanted time files checked count first live =
     let now = checked.deletes.seen folder files in
     let same = same_reads folder now.0 m.listing.floor (suc m.listing.last - m.listing.floor)
-    (λ segment above below. unless_kept _ _ _ (keeps_segment m.number m.listing.floor m.listing.last numbers segment above (omega (arith, above, below))) (now.2 (log_name segment))) in
+    (λ segment above below. unless_kept _ _ _ (keeps_segment m.number m.listing.floor m.listing.last wanted segment above (omega (arith, above, below))) (now.2 (log_name segment))) in
     omega (arith, first, count, live now.0 now.1, same)
 
 -- the manifest was read, and then what it lists

@@ -128,22 +128,22 @@ pub contents_left : (a b : View) (kept : FileName → Bool) (name : FileName) �
 contents_left a b kept name is change = contents_kept a b (Deletes kept) name
     (λ x y deletes. subst (λ (k : Bool). DeletedUnless k (get x name) (get y name)) is (deletes name)) change
 
-module _ (a b : View) (number : ℕ) (listing : Listing) (numbers : List ℕ) (change : Changes (Deletes (keeps (Store number listing.floor listing.last) numbers)) a b) where
+module _ (a b : View) (number : ℕ) (listing : Listing) (wanted : List FileName) (change : Changes (Deletes (keeps (Store number listing.floor listing.last) wanted)) a b) where
   pub manifest_room : (at : ℕ) → Reaches a (manifest_name number) at → Reaches b (manifest_name number) at
   manifest_room at reaches =
-      reaches_where a b (Deletes (keeps (Store number listing.floor listing.last) numbers)) (manifest_name number) at change
-      (contents_left a b (keeps (Store number listing.floor listing.last) numbers) (manifest_name number)
-      (keeps_manifest number listing.floor listing.last numbers) change) reaches
+      reaches_where a b (Deletes (keeps (Store number listing.floor listing.last) wanted)) (manifest_name number) at change
+      (contents_left a b (keeps (Store number listing.floor listing.last) wanted) (manifest_name number)
+      (keeps_manifest number listing.floor listing.last wanted) change) reaches
 
   pub manifest_stands : (at : ℕ) → ManifestStands a number at listing → ManifestStands b number at listing
   manifest_stands at = manifest_stays a b number at listing
-      (λ bytes. deletes_kept a b (keeps (Store number listing.floor listing.last) numbers) (manifest_name number) bytes (keeps_manifest number listing.floor listing.last numbers) change)
+      (λ bytes. deletes_kept a b (keeps (Store number listing.floor listing.last) wanted) (manifest_name number) bytes (keeps_manifest number listing.floor listing.last wanted) change)
 
   pub segments_live : LiveSegmentsExist a listing → LiveSegmentsExist b listing
   segments_live live segment above below =
-      there_where a b (Deletes (keeps (Store number listing.floor listing.last) numbers)) (log_name segment) change
-      (contents_left a b (keeps (Store number listing.floor listing.last) numbers) (log_name segment)
-      (keeps_segment number listing.floor listing.last numbers segment above below) change) (live segment above below)
+      there_where a b (Deletes (keeps (Store number listing.floor listing.last) wanted)) (log_name segment) change
+      (contents_left a b (keeps (Store number listing.floor listing.last) wanted) (log_name segment)
+      (keeps_segment number listing.floor listing.last wanted segment above below) change) (live segment above below)
 
 -- ---- moments
 

@@ -1,17 +1,18 @@
 -- A folder without tables has no timestamps.
 use Rattle.std.proofs.Common.{◌≡◌, ℕ, List, [], ◌∷◌, map, ⊎_elim, true, false, refl, sym, ap, ◌∙◌, arith}
 use Rattle.std.specs.Prelude.{max}
+use Rattle.sasi_host.specs.declared.name.FileName.{FileName}
 use Rattle.sasi_host.specs.View.{View}
-use Rattle.sasi_layout.specs.Kept.{is_listed}
+use Rattle.sasi_manifest.specs.FileNames.{has_name}
 use Rattle.sasi_manifest.specs.declared.listing.Listing.{Listing}
 use Rattle.sasi_manifest.specs.ListedDefinition.{ListedDefinition}
-use Rattle.sasi_recover.specs.DataFiles.{IsLargestOf}
+use Rattle.sasi_recover.specs.FileEnds.{IsLargestOf}
 use Rattle.sasi_recover.specs.OpenedFolder.{IsTimed, opened_store}
 use Rattle.sasi_recover.specs.ReplayState.{AreMapsFrom, IsReplayOf, ReplayState, tables_time}
 use Rattle.sasi_recover.specs.SealedFolder.{AreListedFiles}
 use Rattle.sasi_recover.specs.declared.opened.Opened.{Opened}
 use Rattle.sasi_recover.specs.declared.opened.TableMap.{TableMap}
-use Rattle.sasi_recover.proofs.Checking.{among_of}
+use Rattle.sasi_recover.proofs.NameLists.{any_of}
 use Rattle.sasi_types.specs.declared.partitioner.Partitioner.{Partitioner}
 
 no_maps : (p : Partitioner) (floor last number : ℕ) (xs : List TableMap) → AreMapsFrom p floor last number [] xs → tables_time xs ≡ 0
@@ -21,10 +22,10 @@ no_maps p floor last number (x ∷ xs) are = absurd are
 never : true ≡ false → ⊥
 never e = cc
 
-module _ (v : View) (listing : Listing) (files : List ℕ) (time : ℕ) (s : ReplayState) (listed : AreListedFiles listing files) (tells : IsLargestOf v files time) (replayed : IsReplayOf listing s) where
+module _ (v : View) (listing : Listing) (files : List FileName) (time : ℕ) (s : ReplayState) (listed : AreListedFiles listing files) (tells : IsLargestOf v files time) (replayed : IsReplayOf listing s) where
   none_listed : listing.tables ≡ [] → time ≡ 0
   none_listed none = ⊎_elim (λ zero_is. zero_is)
-      (λ some. absurd (never (sym (among_of files some.0 some.1) ∙ listed.listed some.0 ∙ ap (λ (ts : List ListedDefinition). is_listed ts some.0) none))) tells.attained
+      (λ some. absurd (never (sym (any_of files some.0 some.1) ∙ listed.listed some.0 ∙ ap (λ (ts : List ListedDefinition). has_name ts some.0) none))) tells.attained
 
   none_replayed : (tables : List ListedDefinition) → AreMapsFrom listing.partitioner listing.floor listing.last 1 tables s.tables → tables ≡ [] → s.max_timestamp ≡ 0
   none_replayed [] are none = replayed.time ∙ no_maps listing.partitioner listing.floor listing.last 1 s.tables are

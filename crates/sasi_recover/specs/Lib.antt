@@ -1,6 +1,6 @@
-pub mod DataFiles
 pub mod Deletion
 pub mod Faults
+pub mod FileEnds
 pub mod KeptListed
 pub mod NewFolder
 pub mod OpenedFolder

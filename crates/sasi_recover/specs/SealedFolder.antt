@@ -1,20 +1,20 @@
 -- A folder with a seal: which damage is reported of a file that is missing.
 use Rattle.std.specs.Prelude.{◌≡◌, ◌⊎◌, ℕ, ◌+◌, ◌≤◌, ◌<◌, All, Bool, false, IsTrue, List, [], ◌∷◌, ◌++◌, Contains, Some}
-use Rattle.std.specs.List.Sorted.{IsNonDecreasing}
+use Rattle.std.specs.List.{list_any}
+use Rattle.std.specs.List.Sorted.{IsSorted}
 use Rattle.sasi_host.specs.declared.damage.Damage.{Damage}
 use Rattle.sasi_host.specs.declared.damage.FormatRule.TheVariants.{Missing}
 use Rattle.sasi_host.specs.declared.name.FileName.{FileName}
 use Rattle.sasi_host.specs.Damages.{seen_bytes}
-use Rattle.sasi_host.specs.Names.{Bytes, data_name, log_name, manifest_name, seal_name}
+use Rattle.sasi_host.specs.Names.{Bytes, log_name, manifest_name, name_cmp, name_eq, seal_name}
 use Rattle.sasi_host.specs.Disk.{Changes, IsFileDurable}
 use Rattle.sasi_host.specs.View.{IsAbsent, IsThere, IsTold, Reaches, View, contents}
 use Rattle.sasi_manifest.specs.Consistent.{IsConsistent}
-use Rattle.sasi_manifest.specs.ListedFiles.{is_among}
+use Rattle.sasi_manifest.specs.FileNames.{has_name}
 use Rattle.sasi_manifest.specs.OpenManifest.{ManifestState, ManifestStands}
 use Rattle.sasi_manifest.specs.Reading.{ReadsListing}
-use Rattle.sasi_layout.specs.Kept.{is_listed}
-use Rattle.sasi_recover.specs.DataFiles.{HasDataEnd, IsLargestOf}
 use Rattle.sasi_recover.specs.Deletion.{Deletes, keeps}
+use Rattle.sasi_recover.specs.FileEnds.{HasEnd, IsLargestOf}
 use Rattle.sasi_recover.specs.Replaying.{LiveSegmentsExist}
 use Rattle.sasi_recover.specs.declared.unlisted_files.Keep.TheVariants.{Store}
 use Rattle.sasi_manifest.specs.declared.listing.Listing.{Listing}
@@ -37,26 +37,26 @@ pub record ReportsMissingSegment (names : List FileName) (floor last : ℕ) (dam
   pub earlier : (number : ℕ) → floor ≤ number → number < segment → Contains names (log_name number)
   pub missing : ReportsMissing names (log_name segment) damage
 
--- or the first of these data files that isn't among them
-pub record ReportsMissingData (names : List FileName) (files : List ℕ) (damage : Damage) : Type 0 where
-  pub number : ℕ
-  pub before : List ℕ
-  pub behind : List ℕ
-  pub listed : files ≡ before ++ number ∷ behind
-  pub earlier : All (λ n. Contains names (data_name n)) before
-  pub missing : ReportsMissing names (data_name number) damage
+-- or the first of these files that isn't among them
+pub record ReportsMissingFile (names files : List FileName) (damage : Damage) : Type 0 where
+  pub file : FileName
+  pub before : List FileName
+  pub behind : List FileName
+  pub listed : files ≡ before ++ file ∷ behind
+  pub earlier : All (Contains names) before
+  pub missing : ReportsMissing names file damage
 
--- a live segment, or a data file where these are there
-abbrev pub ReportsMissingListed : List FileName → ℕ → ℕ → List ℕ → Damage → Type 0
+-- a live segment, or a file of a table where these are there
+abbrev pub ReportsMissingListed : List FileName → ℕ → ℕ → List FileName → Damage → Type 0
 ReportsMissingListed names floor last files damage =
-    ReportsMissingSegment names floor last damage ⊎ (((segment : ℕ) → floor ≤ segment → segment ≤ last → Contains names (log_name segment)) × ReportsMissingData names files damage)
+    ReportsMissingSegment names floor last damage ⊎ (((segment : ℕ) → floor ≤ segment → segment ≤ last → Contains names (log_name segment)) × ReportsMissingFile names files damage)
 
 -- ---- what is there
 
--- the live segments and the data files are among the names
-pub record AreNamed (names : List FileName) (floor last : ℕ) (files : List ℕ) : Type 0 where
+-- the live segments and the files of tables are among the names
+pub record AreNamed (names : List FileName) (floor last : ℕ) (files : List FileName) : Type 0 where
   pub segments : (segment : ℕ) → floor ≤ segment → segment ≤ last → Contains names (log_name segment)
-  pub there : All (λ n. Contains names (data_name n)) files
+  pub there : All (Contains names) files
 
 -- the manifest was opened, and is as it reads
 pub record IsManifestRead (v : View) (m : ManifestState) : Type 0 where
@@ -68,21 +68,21 @@ pub record IsManifestRead (v : View) (m : ManifestState) : Type 0 where
   pub room : Reaches v (manifest_name m.number) (m.at + 1)
   pub usable : IsTrue m.usable
 
--- these are the numbers of the listed data files, in their order
-pub record AreListedFiles (listing : Listing) (files : List ℕ) : Type 0 where
-  pub sorted : IsNonDecreasing files
-  pub listed : (n : ℕ) → is_among files n ≡ is_listed listing.tables n
+-- these are the names of the listed data files and index files, in their order
+pub record AreListedFiles (listing : Listing) (files : List FileName) : Type 0 where
+  pub sorted : IsSorted name_cmp files
+  pub listed : (name : FileName) → list_any (name_eq name) files ≡ has_name listing.tables name
 
 -- the files that a store with this manifest keeps
-abbrev pub kept_with : ManifestState → List ℕ → FileName → Bool
+abbrev pub kept_with : ManifestState → List FileName → FileName → Bool
 kept_with m files = keeps (Store m.number m.listing.floor m.listing.last) files
 
--- What the manifest lists was checked: the segments are there, and the data files with their ends. The other files were deleted.
-pub record IsChecked (old new : View) (m : ManifestState) (files : List ℕ) (time : ℕ) : Type 0 where
+-- What the manifest lists was checked: the segments are there, and the files of tables with their ends. The other files were deleted.
+pub record IsChecked (old new : View) (m : ManifestState) (files : List FileName) (time : ℕ) : Type 0 where
   pub deletes : Changes (Deletes (kept_with m files)) old new
   pub gone : (name : FileName) → kept_with m files name ≡ false → IsAbsent new name
   pub live : LiveSegmentsExist new m.listing
-  pub there : (n : ℕ) → Contains files n → IsThere old (data_name n)
-  pub durable : (n : ℕ) (bytes : Bytes) → Contains files n → contents old (data_name n) ≡ Some bytes → IsFileDurable new (data_name n) bytes
-  pub ends : (n : ℕ) → Contains files n → HasDataEnd old n
+  pub there : (name : FileName) → Contains files name → IsThere old name
+  pub durable : (name : FileName) (bytes : Bytes) → Contains files name → contents old name ≡ Some bytes → IsFileDurable new name bytes
+  pub ends : (name : FileName) → Contains files name → HasEnd old name
   pub tells : IsLargestOf old files time

@@ -1,62 +1,61 @@
-// The data files that a listing has, by their numbers.
-ghost use Rattle.std.specs.Prelude.{◌≡◌, ◌+◌, ◌++◌, ◌&&◌, ◌||◌, ℕ, length, map, IfOk, OnOk};
-ghost use Rattle.std.specs.List.Sorted.{IsNonDecreasing};
-ghost use Rattle.sasi_host.specs.Names.{data_name, name_eq};
-ghost use Rattle.sasi_manifest.specs.ListedFiles.{is_among};
+// The files that a listing has, by their names.
+ghost use Rattle.std.specs.Prelude.{◌≡◌, ◌+◌, ◌*◌, ◌++◌, IfOk, OnOk, map};
+ghost use Rattle.std.specs.List.{flat_map};
+ghost use Rattle.sasi_manifest.specs.FileNames.{file_names, largest_part};
+ghost use Rattle.sasi_manifest.specs.ListedFiles.{index_name, largest_of_files, largest_of_parts, names_of};
 ghost use Rattle.sasi_manifest.specs.ListedTables.{listed};
-ghost use Rattle.sasi_layout.specs.Kept.{is_listed};
-ghost use Rattle.sasi_recover.specs.OpeningReads.{data_count};
 ghost use Rattle.sasi_layout.specs.Layout.{largest_data, largest_file};
+ghost use Rattle.sasi_recover.specs.OpeningReads.{data_count, ends_reads, index_count};
+ghost use Rattle.sasi_recover.specs.SealedFolder.{AreListedFiles};
 
 use sasi_host::{DataNumber, FileName};
-use sasi_manifest::{ListedFile, ListedTable, Listing};
+use sasi_manifest::{ListedFile, ListedTable, Listing, PartNumber};
 use std::alloc::{AllocError, Global};
 
-/// The numbers of all listed data files, in their order.
-pub fn sorted_numbers(alloc: Global, listing: &Listing) -> Result<Vec<DataNumber>, AllocError>
-    ensures sorted { IfOk result (λ numbers. IsNonDecreasing numbers.items) }
-    ensures count { IfOk result (λ numbers. length numbers.items ≡ data_count listing.now.tables) }
-    ensures listed { IfOk result (λ numbers. (n : ℕ) → is_among numbers.items n ≡ is_listed listing.now.tables n) }
+/// The names of all listed data files and index files, in their order.
+pub fn sorted_names(alloc: Global, listing: &Listing) -> Result<Vec<FileName>, AllocError>
+    ensures listed { IfOk result (λ names. AreListedFiles listing.now names.items) }
+    ensures reads { IfOk result (λ names. ends_reads names.items ≡ 2 * data_count listing.now.tables + 3 * index_count listing.now.tables) }
 {
-    let mut numbers = Vec::new(alloc);
-    push_all(&mut numbers, listing.tables.as_slice())?;
-    numbers.sort_unstable();
-    Ok(numbers)
+    let mut names = Vec::new(alloc);
+    push_all(&mut names, listing.tables.as_slice())?;
+    names.sort_unstable();
+    Ok(names)
 }
 
-// Adds the numbers of the tables' data files.
-fn push_all(numbers: &mut Vec<DataNumber>, tables: &[ListedTable]) -> Result<(), AllocError>
-    ensures count { OnOk result (length numbers.new.items ≡ length numbers.old.items + data_count (map listed tables.now)) }
-    ensures listed { OnOk result ((n : ℕ) → is_among numbers.new.items n ≡ (is_among numbers.old.items n || is_listed (map listed tables.now) n)) }
+// Adds the names of the tables' files.
+fn push_all(names: &mut Vec<FileName>, tables: &[ListedTable]) -> Result<(), AllocError>
+    ensures { OnOk result (names.new.items ≡ names.old.items ++ file_names (map listed tables.now)) }
 {
     for table in tables {
-        push_numbers(numbers, table.files.as_slice())?;
+        push_files(names, table.files.as_slice())?;
     }
     Ok(())
 }
 
-fn push_numbers(numbers: &mut Vec<DataNumber>, files: &[ListedFile]) -> Result<(), AllocError>
-    ensures { OnOk result (numbers.new.items ≡ numbers.old.items ++ map (λ f. f.number) files.now) }
+// Adds the names of data files and of the index files that go with them.
+fn push_files(names: &mut Vec<FileName>, files: &[ListedFile]) -> Result<(), AllocError>
+    ensures { OnOk result (names.new.items ≡ names.old.items ++ flat_map names_of files.now) }
 {
     for file in files {
-        numbers.push(file.number)?;
+        names.push(FileName::data(file.number))?;
+        push_parts(names, file.number, file.parts.as_slice())?;
     }
     Ok(())
 }
 
-/// Whether the name is that of one of the data files with these numbers.
-pub fn is_data_file(numbers: &[DataNumber], name: FileName) -> bool
-    requires { IsNonDecreasing numbers.now }
-    ensures { result ≡ (name_eq name (data_name name.number) && is_among numbers.now name.number) }
+// Adds the names of the index files that go with the data file of this number.
+fn push_parts(
+    names: &mut Vec<FileName>,
+    number: DataNumber,
+    parts: &[PartNumber],
+) -> Result<(), AllocError>
+    ensures { OnOk result (names.new.items ≡ names.old.items ++ map (index_name number) parts.now) }
 {
-    name == FileName::data(name.number) && is_among(numbers, name.number)
-}
-
-fn is_among(numbers: &[DataNumber], number: DataNumber) -> bool
-    requires { IsNonDecreasing numbers.now }
-    ensures { result ≡ is_among numbers.now number }
-{
-    numbers.binary_search(&number).is_ok()
+    for part in parts {
+        names.push(part.file_name(number))?;
+    }
+    Ok(())
 }
 
 /// The largest number of a listed data file; 0 where there is none.
@@ -76,6 +75,37 @@ fn largest_in(files: &[ListedFile]) -> DataNumber
     let mut largest = 0;
     for file in files {
         largest = largest.max(file.number);
+    }
+    largest
+}
+
+/// The largest number of a listed part; 0 where there is none.
+pub fn largest_part(tables: &[ListedTable]) -> u32
+    ensures { result ≡ largest_part (map listed tables.now) }
+{
+    let mut largest = 0;
+    for table in tables {
+        largest = largest.max(largest_of_files(table.files.as_slice()));
+    }
+    largest
+}
+
+fn largest_of_files(files: &[ListedFile]) -> u32
+    ensures { result ≡ largest_of_files files.now }
+{
+    let mut largest = 0;
+    for file in files {
+        largest = largest.max(largest_of_parts(file.parts.as_slice()));
+    }
+    largest
+}
+
+fn largest_of_parts(parts: &[PartNumber]) -> u32
+    ensures { result ≡ largest_of_parts parts.now }
+{
+    let mut largest = 0;
+    for part in parts {
+        largest = largest.max(part.part);
     }
     largest
 }

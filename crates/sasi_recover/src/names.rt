@@ -1,7 +1,8 @@
-// The names of the files of a folder.
-ghost use Rattle.std.specs.Prelude.{◌≡◌, ◌≤◌, Contains, IfErr, OnOk, false, true, ℕ};
-ghost use Rattle.std.specs.List.Sorted.{IsStrictlySortedBy};
-ghost use Rattle.sasi_host.specs.Names.{log_name, name_cmp};
+// Names of files in their order.
+ghost use Rattle.std.specs.Prelude.{◌≡◌, ◌≤◌, Contains, IfErr, OnOk, ℕ};
+ghost use Rattle.std.specs.List.{list_any};
+ghost use Rattle.std.specs.List.Sorted.{IsSorted, IsStrictlySortedBy};
+ghost use Rattle.sasi_host.specs.Names.{log_name, name_cmp, name_eq};
 ghost use Rattle.sasi_recover.specs.SealedFolder.{ReportsMissing, ReportsMissingSegment};
 
 use sasi_host::{Damage, FileName, FormatRule, SegmentNumber, found};
@@ -30,17 +31,17 @@ pub fn check_there(names: &[FileName], file: FileName) -> Result<(), Damage>
     ensures there { OnOk result (Contains names.now file) }
     ensures missing { IfErr result (ReportsMissing names.now file) }
 {
-    if is_listed(names, file) {
+    if is_among(names, file) {
         Ok(())
     } else {
         Err(found(file, 0, FormatRule::Missing, &[]))
     }
 }
 
-fn is_listed(names: &[FileName], file: FileName) -> bool
-    requires { IsStrictlySortedBy name_cmp names.now }
-    ensures yes { result ≡ true → Contains names.now file }
-    ensures no { result ≡ false → ¬ Contains names.now file }
+/// Whether the file is among these names.
+pub fn is_among(names: &[FileName], file: FileName) -> bool
+    requires { IsSorted name_cmp names.now }
+    ensures { result ≡ list_any (name_eq file) names.now }
 {
     names.binary_search(&file).is_ok()
 }

@@ -1,5 +1,5 @@
 // Opens the manifest of a folder that has a seal, and what it lists.
-ghost use Rattle.std.specs.Prelude.{◌≡◌, ◌+◌, ◌*◌, ◌≤◌, ◌⊎◌, IfErr, IfOk, IsTrue, List, OnOk, Some, length};
+ghost use Rattle.std.specs.Prelude.{◌≡◌, ◌+◌, ◌≤◌, ◌⊎◌, IfErr, IfOk, IsTrue, List, OnOk, Some};
 ghost use Rattle.std.specs.List.Sorted.{IsStrictlySortedBy};
 ghost use Rattle.sasi_host.specs.Damages.{OnDamage};
 ghost use Rattle.sasi_host.specs.Names.{Folder, name_cmp, manifest_name};
@@ -19,17 +19,17 @@ ghost use Rattle.sasi_layout.specs.Shape.{HasShape};
 ghost use Rattle.sasi_recover.specs.KeptListed.{KeepsAll, kept_under};
 ghost use Rattle.sasi_recover.specs.OpenedFolder.{AnyFolderChange, IsTimed, opened_store, used_numbers};
 ghost use Rattle.sasi_recover.specs.Opening.{IsFolderDurable};
-ghost use Rattle.sasi_recover.specs.OpeningReads.{ReadsFileOnce, ReadsListingOnce};
+ghost use Rattle.sasi_recover.specs.OpeningReads.{ends_reads, ReadsFileOnce, ReadsListingOnce};
 ghost use Rattle.sasi_recover.specs.ReplayState.{AreMaps};
 ghost use Rattle.sasi_recover.specs.SealedFolder.{AreListedFiles, AreNamed, IsChecked, IsManifestRead, ReportsMissingListed};
 
-use crate::data_files::{check_data_files, read_ends};
-use crate::files::{largest_number, sorted_numbers};
+use crate::file_ends::{check_files, read_ends};
+use crate::files::{largest_number, largest_part, sorted_names};
 use crate::names::{check_segments, check_there};
 use crate::replay::replay;
 use crate::unlisted_files::{Keep, delete_unlisted};
 use crate::{Numbers, Opened};
-use sasi_host::{Damage, DataNumber, FileName, Host, ManifestNumber, ReadFault};
+use sasi_host::{Damage, FileName, Host, ManifestNumber, ReadFault};
 use sasi_manifest::{Listing, Manifest};
 use std::alloc::Global;
 
@@ -85,7 +85,7 @@ pub fn open_listed<H: Host>(
     ensures once { (folder : Folder) → (H.view host.old).files ≡ Some folder → ReadsListingOnce folder manifest.listing (H.view host.old) (H.view host.new) }
     ensures causes { ReadingCauses (H.view host.old) (H.view host.new) result }
 {
-    let files = sorted_numbers(alloc, manifest.listing())?;
+    let files = sorted_names(alloc, manifest.listing())?;
     let greatest = check_and_delete(host, names, &manifest, &files)?;
     let replayed = replay(alloc, host, manifest.listing())?;
     let numbers = numbers_in(&manifest);
@@ -103,7 +103,7 @@ fn check_and_delete<H: Host>(
     host: &mut H,
     names: &[FileName],
     manifest: &Manifest,
-    files: &[DataNumber],
+    files: &[FileName],
 ) -> Result<u64, ReadFault>
     requires lists { Lists (H.view host.old) names.now }
     requires sorted { IsStrictlySortedBy name_cmp names.now }
@@ -116,7 +116,7 @@ fn check_and_delete<H: Host>(
     ensures undamaged { (folder : Folder) (l : Layout) (logs : List (List Mutation)) → (H.view host.old).files ≡ Some folder → l.used.manifest ≡ manifest.now.number → HasShape folder l logs → IfErr result (OnDamage (λ _. ⊥)) }
     ensures kept { Changes (KeepsAll (kept_under manifest.now)) (H.view host.old) (H.view host.new) }
     ensures changes { Changes AnyFolderChange (H.view host.old) (H.view host.new) }
-    ensures reads { (H.view host.new).reads ≤ (H.view host.old).reads + 2 * length files.now }
+    ensures reads { (H.view host.new).reads ≤ (H.view host.old).reads + ends_reads files.now }
     ensures causes { ReadingCauses (H.view host.old) (H.view host.new) result }
 {
     let number = manifest.number();
@@ -132,15 +132,15 @@ fn check_and_delete<H: Host>(
     Ok(time)
 }
 
-// Passes where the live segments and the data files are among the names, and else reports the first that is missing.
-fn check_names(names: &[FileName], listing: &Listing, files: &[DataNumber]) -> Result<(), Damage>
+// Passes where the live segments and the files of tables are among the names, and else reports the first that is missing.
+fn check_names(names: &[FileName], listing: &Listing, files: &[FileName]) -> Result<(), Damage>
     requires sorted { IsStrictlySortedBy name_cmp names.now }
     requires ordered { listing.now.floor ≤ listing.now.last }
     ensures there { OnOk result (AreNamed names.now listing.now.floor listing.now.last files.now) }
     ensures missing { IfErr result (ReportsMissingListed names.now listing.now.floor listing.now.last files.now) }
 {
     check_segments(names, listing.floor, listing.last)?;
-    check_data_files(names, files)?;
+    check_files(names, files)?;
     Ok(())
 }
 
@@ -154,6 +154,6 @@ fn numbers_in(manifest: &Manifest) -> Numbers
         log: listing.last,
         data: largest_number(listing.tables.as_slice()),
         index: listing.tables.largest_index(),
-        part: 0,
+        part: largest_part(listing.tables.as_slice()),
     }
 }

@@ -1,6 +1,6 @@
 // Deletes the files that a store doesn't list.
 ghost use Rattle.std.specs.Prelude.{◌≡◌, OnOk, false};
-ghost use Rattle.std.specs.List.Sorted.{IsNonDecreasing, IsStrictlySortedBy};
+ghost use Rattle.std.specs.List.Sorted.{IsSorted, IsStrictlySortedBy};
 ghost use Rattle.sasi_host.specs.declared.name.FileName.{FileName as AName};
 ghost use Rattle.sasi_host.specs.Names.{name_cmp, log_name, manifest_name};
 ghost use Rattle.sasi_host.specs.View.{DiskCauses, IsAbsent, IsThere};
@@ -8,14 +8,14 @@ ghost use Rattle.sasi_host.specs.Disk.{Changes, Lists, FileChange};
 ghost use Rattle.sasi_layout.specs.Kept.{has_segment};
 ghost use Rattle.sasi_recover.specs.Deletion.{DeletedUnless, Deletes, keeps};
 
-use crate::files::is_data_file;
-use sasi_host::{DataNumber, Failed, FileName, Host, ManifestNumber, SegmentNumber};
+use crate::names::is_among;
+use sasi_host::{Failed, FileName, Host, ManifestNumber, SegmentNumber};
 
 /// The files of a folder that are kept. The others are deleted.
 #[derive(Clone, Copy)]
 pub enum Keep {
     Nothing,
-    /// The manifest of this number, its seal, the segments of the commit log from `floor` to `last`, and the listed data files.
+    /// The manifest of this number, its seal, the segments of the commit log from `floor` to `last`, and the listed files.
     Store {
         number: ManifestNumber,
         floor: SegmentNumber,
@@ -23,17 +23,17 @@ pub enum Keep {
     },
 }
 
-/// Deletes each file that isn't kept; `files` are the numbers of the listed data files. A crash leaves none of them once the
-/// folder is synced.
+/// Deletes each file that isn't kept; `files` are the names of the listed files, in order. A crash leaves none of the others once
+/// the folder is synced.
 pub fn delete_unlisted<H: Host>(
     host: &mut H,
     names: &[FileName],
     keep: Keep,
-    files: &[DataNumber],
+    files: &[FileName],
 ) -> Result<(), Failed>
     requires lists { Lists (H.view host.old) names.now }
     requires sorted { IsStrictlySortedBy name_cmp names.now }
-    requires files { IsNonDecreasing files.now }
+    requires files { IsSorted name_cmp files.now }
     ensures gone { OnOk result ((name : AName) → keeps keep files.now name ≡ false → IsAbsent (H.view host.new) name) }
     ensures changes { Changes (Deletes (keeps keep files.now)) (H.view host.old) (H.view host.new) }
     ensures causes { DiskCauses (H.view host.old) (H.view host.new) result }
@@ -49,10 +49,10 @@ fn delete_unless_kept<H: Host>(
     host: &mut H,
     name: FileName,
     keep: Keep,
-    files: &[DataNumber],
+    files: &[FileName],
 ) -> Result<(), Failed>
     requires there { IsThere (H.view host.old) name }
-    requires files { IsNonDecreasing files.now }
+    requires files { IsSorted name_cmp files.now }
     ensures gone { OnOk result (keeps keep files.now name ≡ false → IsAbsent (H.view host.new) name) }
     ensures changes { Changes (FileChange name (DeletedUnless (keeps keep files.now name))) (H.view host.old) (H.view host.new) }
     ensures causes { DiskCauses (H.view host.old) (H.view host.new) result }
@@ -63,8 +63,8 @@ fn delete_unless_kept<H: Host>(
     host.delete(name)
 }
 
-fn is_kept(keep: Keep, name: FileName, files: &[DataNumber]) -> bool
-    requires { IsNonDecreasing files.now }
+fn is_kept(keep: Keep, name: FileName, files: &[FileName]) -> bool
+    requires { IsSorted name_cmp files.now }
     ensures { result ≡ keeps keep files.now name }
 {
     match keep {
@@ -77,7 +77,7 @@ fn is_kept(keep: Keep, name: FileName, files: &[DataNumber]) -> bool
             name == FileName::manifest(number)
                 || name == FileName::seal(number)
                 || is_segment(name, floor, last)
-                || is_data_file(files, name)
+                || is_among(files, name)
         }
     }
 }

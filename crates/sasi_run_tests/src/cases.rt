@@ -120,3 +120,38 @@ pub fn flushes_of_two_tables() -> Case<'static> {
         states: &FLUSHES_STATES,
     }
 }
+
+static INDEXED_EMITS: [u64; 4] = [17, 22, 27, 54];
+
+static INDEXED_STATES: [usize; 5] = [0, 1, 1, 2, 2];
+
+/// A table with an index, a row, and a flush, which writes an index file beside the data file.
+pub fn indexed_flush() -> Case<'static> {
+    Case {
+        script: "CREATE TABLE t (k text PRIMARY KEY, a text); CREATE CUSTOM INDEX i ON t (a) USING 'org.apache.cassandra.index.sasi.SASIIndex'; \
+            INSERT INTO t (k, a) VALUES ('k1', 'x'); FLUSH t;",
+        emits: &INDEXED_EMITS,
+        question: "SELECT * FROM t;",
+        answers: &ONE_TABLE,
+        states: &INDEXED_STATES,
+    }
+}
+
+static INDEXED_FLUSHES_EMITS: [u64; 10] = [17, 22, 27, 32, 37, 42, 47, 81, 86, 113];
+
+static INDEXED_FLUSHES_STATES: [usize; 11] = [0, 1, 1, 1, 2, 2, 3, 4, 4, 5, 5];
+
+/// Two tables, each flushed once, as without indexes. One has two indexes and the other one has one, so the flushes write two index files
+/// and one.
+pub fn indexed_flushes_of_two_tables() -> Case<'static> {
+    Case {
+        script: "CREATE TABLE t (k text PRIMARY KEY, a text, b int); CREATE CUSTOM INDEX i ON t (a) USING 'org.apache.cassandra.index.sasi.SASIIndex'; \
+            CREATE CUSTOM INDEX j ON t (b) USING 'org.apache.cassandra.index.sasi.SASIIndex'; CREATE TABLE u (k int PRIMARY KEY, a text); \
+            CREATE CUSTOM INDEX l ON u (a) USING 'org.apache.cassandra.index.sasi.SASIIndex'; INSERT INTO u (k, a) VALUES (1, 'z'); \
+            INSERT INTO t (k, a, b) VALUES ('k1', 'x', 7); FLUSH t; UPDATE t SET a = 'y' WHERE k = 'k1'; FLUSH u;",
+        emits: &INDEXED_FLUSHES_EMITS,
+        question: "SELECT k, a FROM t; SELECT k FROM u;",
+        answers: &TWO_TABLES,
+        states: &INDEXED_FLUSHES_STATES,
+    }
+}

@@ -1,13 +1,16 @@
 // What a run finds after a crash or a fault at any call of an earlier one.
-use crate::cases::{Answer, Case, flush, flushes_of_two_tables, insert};
+use crate::cases::{
+    Answer, Case, flush, flushes_of_two_tables, indexed_flush, indexed_flushes_of_two_tables,
+    insert,
+};
 use crate::runs::{crashed, picks, run_script};
 use sasi_host::{MemHost, Pick};
 use sasi_run::{Status, starts_again};
 use std::alloc::Global;
 use std::process::Abort;
 
-/// The replies of a script of nine statements.
-const REPLIES: &str = "ok\nok\nok\nok\nok\nok\nok\nok\nok\n";
+/// The replies of a script of ten statements.
+const REPLIES: &str = "ok\nok\nok\nok\nok\nok\nok\nok\nok\nok\n";
 
 /// How many replies were emitted: all of them whole.
 fn replies_in(rt: &impl Abort, emitted: &[u8]) -> usize {
@@ -215,6 +218,16 @@ fn crash_in_flushes_of_two_tables_leaves_what_was_answered_or_one_more(rt: HostR
     check_each_stopped(&rt, rt.alloc(), &flushes_of_two_tables());
 }
 
+#[test]
+fn crash_in_a_flush_of_an_index_leaves_the_state(rt: HostRuntime) {
+    check_each_stopped(&rt, rt.alloc(), &indexed_flush());
+}
+
+#[test]
+fn crash_in_flushes_of_two_indexed_tables_leaves_what_was_answered_or_one_more(rt: HostRuntime) {
+    check_each_stopped(&rt, rt.alloc(), &indexed_flushes_of_two_tables());
+}
+
 /// Each crash leaves the state after these replies or one statement more.
 fn check_crashes(rt: &impl Abort, alloc: Global, case: &Case<'_>, host: &MemHost, replies: usize) {
     for pick in picks() {
@@ -269,4 +282,9 @@ fn failed_call_ends_the_run(rt: HostRuntime) {
 #[test]
 fn failed_call_of_a_flush_ends_the_run(rt: HostRuntime) {
     check_each_failing(&rt, rt.alloc(), &flushes_of_two_tables());
+}
+
+#[test]
+fn failed_call_of_a_flush_of_indexes_ends_the_run(rt: HostRuntime) {
+    check_each_failing(&rt, rt.alloc(), &indexed_flushes_of_two_tables());
 }

@@ -1,4 +1,5 @@
 // Whole runs in memory.
+use sasi_analyzers::{Analyzer, Whole};
 use sasi_host::{BytePick, MemHost, MemSource, NamePick, Pick};
 use sasi_run::{Status, run};
 use std::alloc::Global;
@@ -23,10 +24,13 @@ fn source_of(rt: &impl Abort, alloc: Global, script: &str) -> MemSource {
     MemSource::new(bytes, 4096, Vec::new(alloc))
 }
 
-/// The status of a run of a script.
+/// The status of a run of a script, which is handed the analyzer of whole texts.
 fn status_of(rt: &impl Abort, alloc: Global, script: &str, host: &mut MemHost) -> Status {
     let mut source = source_of(rt, alloc, script);
-    run(alloc, &words(rt, alloc), &mut source, host, Vec::new(alloc))
+    let mut analyzers: Vec<Box<dyn Analyzer>> = Vec::new(alloc);
+    let whole = Box::new(alloc, Whole::new()).expect(rt, "memory");
+    assert!(rt; analyzers.push(whole).is_ok());
+    run(alloc, &words(rt, alloc), &mut source, host, analyzers)
 }
 
 /// The status of a run of a script, and what it emitted.

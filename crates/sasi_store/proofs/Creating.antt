@@ -1,13 +1,13 @@
 -- A table that a store lists and creates.
-use Rattle.std.proofs.Common.{◌≡◌, ◌≢◌, ◌||◌, ◌&&◌, Bool, false, ℕ, suc, ◌+◌, List, [], ◌∷◌, ◌++◌, length, None, Some, refl, sym, ap, subst, ◌∙◌, arith}
+use Rattle.std.proofs.Common.{◌≡◌, ◌≢◌, ◌||◌, ℕ, suc, ◌+◌, List, [], ◌∷◌, ◌++◌, length, None, Some, refl, sym, ap, subst, ◌∙◌, arith}
 use Rattle.std.specs.Prelude.{IsTrue, Ok, Err}
 use Rattle.std.specs.FinMap as map_
-use Rattle.std.specs.List.{list_any}
+use Rattle.std.specs.List.{flat_map, list_any}
 use Rattle.std.proofs.lemmas.List.{length-map, map-append}
 use Rattle.sasi_host.proofs.ContentLaws.{contents_other, reaches_where, told_after, told_before}
 use Rattle.sasi_host.specs.Disk.{AnyChange, Changes, FileChange, LeftWith}
 use Rattle.sasi_host.specs.declared.name.FileName.{FileName}
-use Rattle.sasi_host.specs.Names.{Folder, data_name, log_name, manifest_name, name_eq, seal_name}
+use Rattle.sasi_host.specs.Names.{Folder, log_name, manifest_name, name_eq, seal_name}
 use Rattle.sasi_host.specs.View.{IsSound, Reaches, View}
 use Rattle.sasi_folder.proofs.FolderLaws.{kinds_apart}
 use Rattle.sasi_layout.proofs.LayoutLaws.{create_state}
@@ -16,7 +16,7 @@ use Rattle.sasi_layout.proofs.Storable.{none_storable}
 use Rattle.sasi_layout.proofs.Trails.{create_each, create_moves}
 use Rattle.sasi_layout.proofs.MovesInOrder.{moved_in_order}
 use Rattle.sasi_layout.specs.Between.{Between}
-use Rattle.sasi_layout.specs.Kept.{HasKept, has_data, has_segment, is_kept}
+use Rattle.sasi_layout.specs.Kept.{HasKept, has_segment, is_kept}
 use Rattle.sasi_layout.specs.Layout.{Layout, TableParts, listing_of, state_of}
 use Rattle.sasi_layout.specs.Moves.{Create, after_create, create_edits, new_parts}
 use Rattle.sasi_layout.specs.Serving.{CanChange, IsTyped, Serves, StoreInMemory, TableInMemory, kept_by, table_in_memory}
@@ -30,7 +30,9 @@ use Rattle.sasi_manifest.specs.declared.listing.Listing.{Listing}
 use Rattle.sasi_manifest.specs.Edits.{encoded}
 use Rattle.sasi_manifest.specs.Format.{IsNext}
 use Rattle.sasi_manifest.specs.ListedDefinition.{ListedDefinition}
-use Rattle.sasi_manifest.specs.ListedFiles.{has_file}
+use Rattle.sasi_manifest.proofs.IndexLaws.{parts_push}
+use Rattle.sasi_manifest.specs.FileNames.{has_name}
+use Rattle.sasi_manifest.specs.ListedFiles.{names_of}
 use Rattle.sasi_manifest.specs.Listings.{listed_definitions}
 use Rattle.sasi_manifest.specs.OpenManifest.{IsEither, ManifestState, ManifestStands}
 use Rattle.sasi_model.specs.Abbreviations.{types_of}
@@ -73,10 +75,6 @@ next_same former es x y first second = one_listing x y (first ∙ sym second)
 pub new_timestamp : (s : State) (d : Definition) → max_timestamp (with_new_table s d) ≡ max_timestamp s
 unfolding max_timestamp
 new_timestamp s d = max_timestamp_push s.tables (empty_table d) nothing_held
-
-any_push : {A : Type 0} (P : A → Bool) (xs : List A) (y : A) → P y ≡ false → list_any P (xs ++ y ∷ []) ≡ list_any P xs
-any_push P [] y none = ap (λ b. b || false) none
-any_push P (x ∷ xs) y none = ap (λ b. P x || b) (any_push P xs y none)
 
 module _ (a b : View) (sound : IsSound a) (store : StoreInMemory) (t : Table) (ready : CanChange a store) (creatable : IsCreatable store t) where
   abbrev listing : Listing
@@ -188,9 +186,10 @@ module _ (a b : View) (sound : IsSound a) (store : StoreInMemory) (t : Table) (r
       same_kept : (new : ManifestState) (name : FileName) → new.number ≡ store.manifest.number → new.listing.floor ≡ listing.floor → new.listing.last ≡ listing.last
           → new.listing.tables ≡ listing.tables ++ record { definition = definition t; numbers = []; since = listing.last; files = [] } ∷ [] → is_kept (record { manifest = new.number; listing = new.listing }) name ≡ is_kept (kept_by store) name
       same_kept new name number floor last tables =
-          let kept_data : has_data new.listing.tables name ≡ has_data listing.tables name =
-          ap (λ (ts : List ListedDefinition). has_data ts name) tables ∙ ap (λ b. name_eq name (data_name name.number) && b) (any_push (λ (t : ListedDefinition). has_file t.files name.number) listing.tables _ refl) in
-          λ i. name_eq name (manifest_name (number i)) || (name_eq name (seal_name (number i)) || (has_segment (floor i) (last i) name || kept_data i))
+          let kept_files : has_name new.listing.tables name ≡ has_name listing.tables name =
+          ap (λ (ts : List ListedDefinition). has_name ts name) tables
+          ∙ ap (list_any (name_eq name)) (parts_push (λ (t : ListedDefinition). flat_map names_of t.files) listing.tables (record { definition = definition t; numbers = []; since = listing.last; files = [] }) refl) in
+          λ i. name_eq name (manifest_name (number i)) || (name_eq name (seal_name (number i)) || (has_segment (floor i) (last i) name || kept_files i))
 
       kept_same : (new : ManifestState) → new.number ≡ store.manifest.number → new.listing.floor ≡ listing.floor → new.listing.last ≡ listing.last
           → new.listing.tables ≡ listing.tables ++ record { definition = definition t; numbers = []; since = listing.last; files = [] } ∷ [] → (folder : Folder) → HasKept (kept_by store) folder → HasKept (record { manifest = new.number; listing = new.listing }) folder

@@ -1,13 +1,13 @@
 -- An index that a store lists and adds to its table.
-use Rattle.std.proofs.Common.{◌≡◌, ◌≢◌, ◌||◌, ◌&&◌, Bool, true, false, cond, ℕ, zero, suc, ◌+◌, ◌-◌, ◌<◌, ◌≤◌, ◌^◌, nat_eq, List, [], ◌∷◌, ◌++◌, map, slice_get, Option, None, Some, refl, sym, ap, subst, ◌∙◌, arith}
+use Rattle.std.proofs.Common.{◌≡◌, ◌≢◌, ◌||◌, true, false, cond, ℕ, zero, suc, ◌+◌, ◌-◌, ◌<◌, ◌≤◌, ◌^◌, nat_eq, List, [], ◌∷◌, ◌++◌, map, slice_get, Option, None, Some, refl, sym, ap, subst, ◌∙◌, arith}
 use Rattle.std.specs.Prelude.{IsTrue, Ok, Err}
-use Rattle.std.specs.List.{AllByRecursion, list_any}
+use Rattle.std.specs.List.{AllByRecursion, flat_map, list_any}
 use Rattle.std.specs.Option.{option_map_or}
 use Rattle.std.proofs.lemmas.List.{length-append}
 use Rattle.sasi_host.proofs.ContentLaws.{contents_other, reaches_where, told_after, told_before}
 use Rattle.sasi_host.specs.Disk.{AnyChange, Changes, FileChange, LeftWith}
 use Rattle.sasi_host.specs.declared.name.FileName.{FileName}
-use Rattle.sasi_host.specs.Names.{Folder, data_name, log_name, manifest_name, name_eq, seal_name}
+use Rattle.sasi_host.specs.Names.{Folder, log_name, manifest_name, name_eq, seal_name}
 use Rattle.sasi_host.specs.View.{IsSound, Reaches, View}
 use Rattle.sasi_folder.proofs.FolderLaws.{kinds_apart}
 use Rattle.sasi_layout.proofs.LayoutLaws.{define_state}
@@ -15,7 +15,7 @@ use Rattle.sasi_layout.proofs.Defines.{define_each, define_is_next, define_moves
 use Rattle.sasi_layout.proofs.Numbered.{all_changed, seen_at, unseen_at}
 use Rattle.sasi_layout.proofs.MovesInOrder.{moved_in_order}
 use Rattle.sasi_layout.specs.Between.{Between}
-use Rattle.sasi_layout.specs.Kept.{HasKept, has_data, has_segment, is_kept}
+use Rattle.sasi_layout.specs.Kept.{HasKept, has_segment, is_kept}
 use Rattle.sasi_layout.specs.Layout.{Layout, TableParts, Used, listing_of, numbered, state_of}
 use Rattle.sasi_layout.specs.Moves.{Define, after_define, define_edits, define_table}
 use Rattle.sasi_layout.specs.NumbersInOrder.{HasFilesInOrder, HasIndexesNumbered}
@@ -30,7 +30,9 @@ use Rattle.sasi_manifest.specs.declared.listing.Listing.{Listing}
 use Rattle.sasi_manifest.specs.Edits.{encoded}
 use Rattle.sasi_manifest.specs.Format.{IsNext}
 use Rattle.sasi_manifest.specs.ListedDefinition.{ListedDefinition}
-use Rattle.sasi_manifest.specs.ListedFiles.{has_file}
+use Rattle.sasi_manifest.proofs.IndexLaws.{parts_same}
+use Rattle.sasi_manifest.specs.FileNames.{has_name}
+use Rattle.sasi_manifest.specs.ListedFiles.{names_of}
 use Rattle.sasi_manifest.specs.Listings.{at_number, index_edit, listed_definitions, listed_with_index}
 use Rattle.sasi_manifest.specs.OpenManifest.{IsEither, ManifestState, ManifestStands}
 use Rattle.sasi_model.specs.Abbreviations.{kind_of}
@@ -68,15 +70,6 @@ next_same former es x y first second = one_listing x y (first ∙ sym second)
 pub index_timestamp : (s : State) (number : ℕ) (i : Index) → max_timestamp (state_with_index s number i) ≡ max_timestamp s
 unfolding max_timestamp
 index_timestamp s number i = times_indexed 1 number i s.tables
-
-any_unseen : {A : Type 0} (P : A → Bool) (f : A → A) → ((x : A) → P (f x) ≡ P x) → (n number : ℕ) (xs : List A) → list_any P (at_number n number f xs) ≡ list_any P xs
-any_unseen P f same n number [] = refl
-any_unseen P f same n number (x ∷ xs) =
-    let rest = any_unseen P f same (suc n) number xs in
-    elim (nat_eq n number) as (λ b. P (cond b (f x) x) || list_any P (at_number (suc n) number f xs) ≡ P x || list_any P xs) [
-      | true ↦ λ i. same x i || rest i
-      | false ↦ ap (λ b. P x || b) rest
-    ]
 
 -- the item that is seen at a position
 seen_there : {A B : Type 0} (f : A → B) (xs : List A) (at : ℕ) (y : B) → slice_get (map f xs) at ≡ Some y → (x : A) × (slice_get xs at ≡ Some x) × (f x ≡ y)
@@ -226,10 +219,10 @@ module _ (a b : View) (sound : IsSound a) (store : StoreInMemory) (new : NewInde
       same_kept : (made : ManifestState) (name : FileName) → made.number ≡ store.manifest.number → made.listing.floor ≡ listing.floor → made.listing.last ≡ listing.last
           → made.listing.tables ≡ at_number 1 new.table (listed_with_index (numbered_def next_number new)) listing.tables → is_kept (record { manifest = made.number; listing = made.listing }) name ≡ is_kept (kept_by store) name
       same_kept made name number floor last tables =
-          let kept_data : has_data made.listing.tables name ≡ has_data listing.tables name =
-          ap (λ (ts : List ListedDefinition). has_data ts name) tables
-          ∙ ap (λ b. name_eq name (data_name name.number) && b) (any_unseen (λ (t : ListedDefinition). has_file t.files name.number) (listed_with_index (numbered_def next_number new)) (λ t. refl) 1 new.table listing.tables) in
-          λ i. name_eq name (manifest_name (number i)) || (name_eq name (seal_name (number i)) || (has_segment (floor i) (last i) name || kept_data i))
+          let kept_files : has_name made.listing.tables name ≡ has_name listing.tables name =
+          ap (λ (ts : List ListedDefinition). has_name ts name) tables
+          ∙ ap (list_any (name_eq name)) (parts_same (λ (t : ListedDefinition). flat_map names_of t.files) (listed_with_index (numbered_def next_number new)) (λ t. refl) 1 new.table listing.tables) in
+          λ i. name_eq name (manifest_name (number i)) || (name_eq name (seal_name (number i)) || (has_segment (floor i) (last i) name || kept_files i))
 
       kept_same : (made : ManifestState) → made.number ≡ store.manifest.number → made.listing.floor ≡ listing.floor → made.listing.last ≡ listing.last
           → made.listing.tables ≡ at_number 1 new.table (listed_with_index (numbered_def next_number new)) listing.tables → (folder : Folder) → HasKept (kept_by store) folder → HasKept (record { manifest = made.number; listing = made.listing }) folder

@@ -38,7 +38,7 @@ module _ (book : Book) (last : ℕ) (new : List ListedDefinition) (ts : List Tab
   row_inside = omega (arith, within, mapped.counted, length-map new subjects_of, length-map rows listed, ap length seen)
 
   module _ (row : ListedTable) (is : row ≡ get_or rows at row) where
-    row_there : slice_get new at ≡ Some (listed row)
+    pub row_there : slice_get new at ≡ Some (listed row)
     row_there = ap (λ (l : List ListedDefinition). slice_get l at) (sym seen) ∙ map_there listed rows at row (index_got rows at row row_inside is)
 
     pub row_wanted : slice_get (map subjects_of new) at ≡ Some (map subject_of row.table.indexes)

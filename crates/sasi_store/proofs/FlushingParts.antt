@@ -12,13 +12,17 @@ use Rattle.sasi_host.specs.Names.{log_name, manifest_name}
 use Rattle.sasi_host.specs.View.{IsSound, ListCauses, Reaches, View}
 use Rattle.sasi_layout.specs.Between.{Between}
 use Rattle.sasi_layout.specs.Layout.{Layout, Used}
-use Rattle.sasi_layout.specs.Moves.{Flush, new_listed_file}
+use Rattle.sasi_layout.specs.Moves.{Flush, flush_parts, new_listed_file}
 use Rattle.sasi_layout.specs.Serving.{CanChange, Serves, StoreInMemory, TableInMemory}
-use Rattle.sasi_layout.specs.Spent.{first_spent, spent}
+use Rattle.sasi_layout.specs.Spent.{first_spent, part_draws, spent}
 use Rattle.sasi_layout.specs.Statements.{any_partition}
 use Rattle.sasi_layout.specs.declared.number_kind.NumberKind.{NumberKind}
 use Rattle.sasi_layout.specs.declared.number_kind.NumberKind.TheVariants as kinds
+use Rattle.sasi_manifest.proofs.Replacing.{At}
+use Rattle.sasi_manifest.specs.declared.files.PartNumber.{PartNumber}
+use Rattle.sasi_manifest.specs.Edits.{numbers_at}
 use Rattle.sasi_manifest.specs.Format.{IsNext}
+use Rattle.sasi_manifest.specs.ListedFiles.{FitParts}
 use Rattle.sasi_manifest.specs.Listings.{at_number, replaced}
 use Rattle.sasi_manifest.specs.OpenManifest.{ManifestState, ManifestStands}
 use Rattle.sasi_memtable.specs.MemtableView.{MemtableView}
@@ -27,12 +31,13 @@ use Rattle.sasi_recover.specs.OpenedFolder.{opened_table, used_numbers}
 use Rattle.sasi_recover.specs.declared.opened.Numbers.{Numbers}
 use Rattle.sasi_recover.specs.declared.opened.TableMap.{TableMap}
 use Rattle.sasi_schema.specs.Numbers.{RisesFrom}
+use Rattle.sasi_types.specs.declared.index_def.IndexDef.{IndexDef}
 use Rattle.sasi_types.specs.declared.partitioner.Partitioner.{Partitioner}
 use Rattle.sasi_store.specs.Faults.{fault_of_call}
 use Rattle.sasi_store.specs.Floors.{IsUnflushed, floor_in_memory, flushed_in_memory, memory_after_flush}
-use Rattle.sasi_store.specs.Flushing.{CanFlush, ChangesInFlush, HasFlushedFiles, IsFlushOf, IsFlushed, edit_of}
+use Rattle.sasi_store.specs.Flushing.{AreTableIndexes, CanFlush, ChangesInFlush, HasFlushedFiles, IsFlushOf, IsFlushed, edit_of}
 use Rattle.sasi_store.specs.MakesMoves.{MakesMoves}
-use Rattle.sasi_store.specs.Numbers.{AreNext, AreSpent}
+use Rattle.sasi_store.specs.Numbers.{AreNext, AreSpent, flush_draws}
 use Rattle.sasi_store.specs.Puts.{HasTableFor}
 use Rattle.sasi_store.specs.StoreView.{AreTables, IsOfParts, held_in, memory_of}
 use Rattle.sasi_store.specs.declared.fault.StepFault.TheVariants.{NumbersSpent, OutOfMemory}
@@ -86,17 +91,41 @@ none_passes m is = ap (λ b. not b || false) is
 
 -- ---- the numbers
 
-spent_as : (v : View) (p : Parts) (number : ℕ) (l : Layout) → Serves v (memory_of p) l → spent l (Flush number ∷ []) ≡ first_spent ((kinds.Data, p.numbers.«data») ∷ (kinds.Log, p.numbers.log) ∷ []) None
-spent_as v p number l serves = ap (λ (u : Used). first_spent ((kinds.Data, u.«data») ∷ (kinds.Log, u.log) ∷ []) None) (sym serves.used)
+-- the parts are those that a flush of the table draws, whichever layout the store serves
+abbrev pub ArePartsOf : View → Parts → ℕ → List PartNumber → Type 0
+ArePartsOf v p number parts = (l : Layout) → Serves v (memory_of p) l → parts ≡ flush_parts number l
+
+-- the definitions are those of indexes of the table
+abbrev pub AreIndexesOf : View → Parts → ℕ → List IndexDef → Type 0
+AreIndexesOf v p number defs = (l : Layout) → Serves v (memory_of p) l → At 1 number (AreTableIndexes defs) l.tables
+
+-- **What a flush of the table draws was drawn**: the parts of its indexes, which fit its record, and the next numbers.
+pub record HasDrawn (v : View) (p : Parts) (number : ℕ) (defs : List IndexDef) (parts : List PartNumber) (next : Numbers) : Type 0 where
+  pub fit : FitParts (numbers_at p.manifest.listing.tables number) parts
+  pub indexes : AreIndexesOf v p number defs
+  pub parts_are : ArePartsOf v p number parts
+  pub next_is : AreNext parts p.numbers next
+
+spent_as : (v : View) (p : Parts) (number : ℕ) (parts : List PartNumber) → ArePartsOf v p number parts → (l : Layout) → Serves v (memory_of p) l → spent l (Flush number ∷ []) ≡ first_spent (flush_draws p.numbers parts) None
+spent_as v p number parts of l serves =
+    ap (λ (ps : List PartNumber). first_spent ((kinds.Data, l.used.«data») ∷ (part_draws l.used.part ps ++ (kinds.Log, l.used.log) ∷ [])) None) (sym (of l serves))
+    ∙ ap (λ (u : Used). first_spent ((kinds.Data, u.«data») ∷ (part_draws u.part parts ++ (kinds.Log, u.log) ∷ [])) None) (sym serves.used)
 
 -- no number is left
-pub numbers_spent : {T : Type 0} (v : View) (sound : IsSound v) (p : Parts) (number : ℕ) (kind : NumberKind) → AreSpent p.numbers kind → MakesMoves {T = T} (λ l. Flush number ∷ []) v v (memory_of p) (memory_of p) (Err (NumbersSpent kind))
-numbers_spent v sound p number kind is = makes_nothing (λ l. Flush number ∷ []) v sound (memory_of p) (memory_of p) (NumbersSpent kind) tt tt (λ l serves. spent_as v p number l serves ∙ is) (λ e. cc)
+pub numbers_spent : {T : Type 0} (v : View) (sound : IsSound v) (p : Parts) (number : ℕ) (parts : List PartNumber) (kind : NumberKind) → ArePartsOf v p number parts → AreSpent parts p.numbers kind
+    → MakesMoves {T = T} (λ l. Flush number ∷ []) v v (memory_of p) (memory_of p) (Err (NumbersSpent kind))
+numbers_spent v sound p number parts kind of is = makes_nothing (λ l. Flush number ∷ []) v sound (memory_of p) (memory_of p) (NumbersSpent kind) tt tt (λ l serves. spent_as v p number parts of l serves ∙ is) (λ e. cc)
 
 -- ---- the flush
 
-module _ (a : View) (sound : IsSound a) (p : Parts) (of : IsOfParts p) (ready : CanChange a (memory_of p)) (number : ℕ) (small : number < 2 ^ 32) (held : IsUnflushed number (memory_of p)) (next : Numbers) (is : AreNext p.numbers next)
+module _ (a : View) (sound : IsSound a) (p : Parts) (of : IsOfParts p) (ready : CanChange a (memory_of p)) (number : ℕ) (small : number < 2 ^ 32) (held : IsUnflushed number (memory_of p)) (defs : List IndexDef) (parts : List PartNumber) (next : Numbers) (has : HasDrawn a p number defs parts next)
     (floor : ℕ) (floor_is : floor ≡ floor_in_memory 1 number next.log (map opened_table (held_in p))) (t : TableMap) (there : slice_get (held_in p) (number - 1) ≡ Some t) where
+  is : AreNext parts p.numbers next
+  is = has.next_is
+
+  fit : FitParts (numbers_at p.manifest.listing.tables number) parts
+  fit = has.fit
+
   abbrev pub numbers : FlushNumbers
   numbers = record { table = number; file = next.«data»; floor = floor; last = next.log }
 
@@ -118,19 +147,19 @@ module _ (a : View) (sound : IsSound a) (p : Parts) (of : IsOfParts p) (ready : 
   fits : (number < 2 ^ 32) × (next.«data» < 2 ^ 32) × (next.log < 2 ^ 32)
   fits = (small, is.file_fits, is.log_fits)
 
-  pub can : CanFlush a p.manifest t.memtable numbers
-  can = can_flush a (memory_of p) ready numbers t.memtable held is.file last_is floor_is fits memtable_is under
+  pub can : CanFlush a p.manifest t.memtable numbers parts
+  can = can_flush a (memory_of p) ready numbers t.memtable held is.file last_is floor_is fits memtable_is under parts fit
 
-  pub partitioner_after : (manifest : ManifestState) → IsNext p.manifest.listing (edit_of numbers ∷ []) manifest.listing → manifest.listing.partitioner ≡ p.manifest.listing.partitioner
-  partitioner_after manifest listed = (listed_after a (memory_of p) ready numbers t.memtable held is.file last_is floor_is fits memtable_is under manifest.listing listed).0
+  pub partitioner_after : (manifest : ManifestState) → IsNext p.manifest.listing (edit_of numbers parts ∷ []) manifest.listing → manifest.listing.partitioner ≡ p.manifest.listing.partitioner
+  partitioner_after manifest listed = (listed_after a (memory_of p) ready numbers t.memtable held is.file last_is floor_is fits memtable_is under parts fit manifest.listing listed).0
 
-  pub tables_after : (manifest : ManifestState) → IsNext p.manifest.listing (edit_of numbers ∷ []) manifest.listing → manifest.listing.tables ≡ at_number 1 number (replaced [] (new_listed_file next.«data» ∷ []) next.log) p.manifest.listing.tables
-  tables_after manifest listed = (listed_after a (memory_of p) ready numbers t.memtable held is.file last_is floor_is fits memtable_is under manifest.listing listed).3
+  pub tables_after : (manifest : ManifestState) → IsNext p.manifest.listing (edit_of numbers parts ∷ []) manifest.listing → manifest.listing.tables ≡ at_number 1 number (replaced [] (new_listed_file next.«data» parts ∷ []) next.log) p.manifest.listing.tables
+  tables_after manifest listed = (listed_after a (memory_of p) ready numbers t.memtable held is.file last_is floor_is fits memtable_is under parts fit manifest.listing listed).3
 
-  module _ (b : View) (moments : (l : Layout) (logs : List (List Mutation)) → IsFlushOf a p.manifest t.memtable numbers l logs → Changes (λ x y. Between l (Flush number ∷ []) y) a b)
-      (change : Changes (ChangesInFlush p.manifest.number p.manifest.listing.floor numbers) a b) where
-    flush_at : (l : Layout) (serves : Serves a (memory_of p) l) → IsFlushOf a p.manifest t.memtable numbers l (serves.older ++ serves.current ∷ [])
-    flush_at l serves = flush_of a (memory_of p) ready numbers t.memtable held is.file last_is floor_is fits memtable_is under b l serves
+  module _ (b : View) (moments : (l : Layout) (logs : List (List Mutation)) → IsFlushOf a p.manifest t.memtable numbers defs parts l logs → Changes (λ x y. Between l (Flush number ∷ []) y) a b)
+      (change : Changes (ChangesInFlush p.manifest.number p.manifest.listing.floor numbers parts) a b) where
+    flush_at : (l : Layout) (serves : Serves a (memory_of p) l) → IsFlushOf a p.manifest t.memtable numbers defs parts l (serves.older ++ serves.current ∷ [])
+    flush_at l serves = flush_of a (memory_of p) ready numbers t.memtable held is.file last_is floor_is fits memtable_is under parts fit b l serves defs (has.parts_are l serves) (has.indexes l serves)
 
     -- a call failed, or memory ran out
     pub flush_stopped : {T U : Type 0} (new : StoreInMemory) (f : HostFault) → ListCauses {T = T} a b (Err f) → MakesMoves {T = U} (λ l. Flush number ∷ []) a b (memory_of p) new (Err (fault_of_call f))
@@ -142,7 +171,7 @@ module _ (a : View) (sound : IsSound a) (p : Parts) (of : IsOfParts p) (ready : 
       spent_is = plain_unspent _ (fault_of_call f) (call_plain f);
       undamaged = plain_undamaged (fault_of_call f) (call_plain f);
       present = plain_present _ (fault_of_call f) (call_plain f);
-      changes = any_change (ChangesInFlush p.manifest.number p.manifest.listing.floor numbers) a b change;
+      changes = any_change (ChangesInFlush p.manifest.number p.manifest.listing.floor numbers parts) a b change;
       reads = causes.reads;
       causes = call_failed a b f causes;
     }
@@ -157,27 +186,27 @@ module _ (a : View) (sound : IsSound a) (p : Parts) (of : IsOfParts p) (ready : 
       spent_is = tt;
       undamaged = tt;
       present = tt;
-      changes = any_change (ChangesInFlush p.manifest.number p.manifest.listing.floor numbers) a b change;
+      changes = any_change (ChangesInFlush p.manifest.number p.manifest.listing.floor numbers parts) a b change;
       reads = causes.reads;
       causes = made_then_full a b x causes;
     }
 
     -- **The flush was made.**
     pub flush_made : {T U : Type 0} (x : T) (y : U) (manifest : ManifestState) (log : Handle)
-        → ((l : Layout) (logs : List (List Mutation)) → IsFlushOf a p.manifest t.memtable numbers l logs → IsFlushed b manifest log numbers l logs)
-        → IsNext p.manifest.listing (edit_of numbers ∷ []) manifest.listing → manifest.number ≡ p.manifest.number → Reaches b (manifest_name manifest.number) (manifest.at + 1) → IsTrue manifest.usable
-        → log.file ≡ log_name next.log → Reaches b log.file (log.at + 1) → IsTrue log.usable → HasFlushedFiles b p.manifest.listing.floor numbers
+        → ((l : Layout) (logs : List (List Mutation)) → IsFlushOf a p.manifest t.memtable numbers defs parts l logs → IsFlushed b manifest log numbers l logs)
+        → IsNext p.manifest.listing (edit_of numbers parts ∷ []) manifest.listing → manifest.number ≡ p.manifest.number → Reaches b (manifest_name manifest.number) (manifest.at + 1) → IsTrue manifest.usable
+        → log.file ≡ log_name next.log → Reaches b log.file (log.at + 1) → IsTrue log.usable → HasFlushedFiles b p.manifest.listing.floor numbers parts
         → (ManifestStands a p.manifest.number p.manifest.at p.manifest.listing → ManifestStands b manifest.number manifest.at manifest.listing)
-        → ListCauses {T = T} a b (Ok x) → MakesMoves {T = U} (λ l. Flush number ∷ []) a b (memory_of p) (memory_after_flush number manifest log (memory_of p)) (Ok y)
+        → ListCauses {T = T} a b (Ok x) → MakesMoves {T = U} (λ l. Flush number ∷ []) a b (memory_of p) (memory_after_flush number parts manifest log (memory_of p)) (Ok y)
     flush_made x y manifest log flushed listed same room usable file log_room log_usable files stands causes = record {
       any_moment = λ l serves. moments l (serves.older ++ serves.current ∷ []) (flush_at l serves);
-      serves = λ l serves. flush_serves a (memory_of p) ready numbers t.memtable held is.file last_is floor_is fits memtable_is under b l serves manifest log change same file (flushed l (serves.older ++ serves.current ∷ []) (flush_at l serves));
-      ready = flush_ready a (memory_of p) ready numbers t.memtable held is.file last_is floor_is fits memtable_is under b manifest log listed same room usable file log_room log_usable change files stands;
-      unspent = λ l serves. spent_as a p number l serves ∙ is.unspent;
+      serves = λ l serves. flush_serves a (memory_of p) ready numbers t.memtable held is.file last_is floor_is fits memtable_is under parts fit b l serves manifest log change same file (has.parts_are l serves) (flushed l (serves.older ++ serves.current ∷ []) (flush_at l serves));
+      ready = flush_ready a (memory_of p) ready numbers t.memtable held is.file last_is floor_is fits memtable_is under parts fit b manifest log listed same room usable file log_room log_usable change files stands;
+      unspent = λ l serves. spent_as a p number parts has.parts_are l serves ∙ is.unspent;
       spent_is = tt;
       undamaged = tt;
       present = tt;
-      changes = any_change (ChangesInFlush p.manifest.number p.manifest.listing.floor numbers) a b change;
+      changes = any_change (ChangesInFlush p.manifest.number p.manifest.listing.floor numbers parts) a b change;
       reads = causes.reads;
       causes = call_made a b x y causes;
     }
@@ -189,13 +218,13 @@ module _ (p : Parts) (of : IsOfParts p) (number : ℕ) (some : 0 < number) (t : 
   abbrev emptied : TableMap
   emptied = record t { memtable = memtable; first = None }
 
-  pub flushed_memory : (manifest : ManifestState) (log : Handle) (next : Numbers) → AreNext p.numbers next → memtable.partitions ≡ map_.empty
-      → record { definitions = p.schema.definitions; manifest = manifest; log = log; tables = map opened_table tables; used = used_numbers next; max_timestamp = p.max_timestamp } ≡ memory_after_flush number manifest log (memory_of p)
-  flushed_memory manifest log next is empty =
+  pub flushed_memory : (parts : List PartNumber) (manifest : ManifestState) (log : Handle) (next : Numbers) → AreNext parts p.numbers next → memtable.partitions ≡ map_.empty
+      → record { definitions = p.schema.definitions; manifest = manifest; log = log; tables = map opened_table tables; used = used_numbers next; max_timestamp = p.max_timestamp } ≡ memory_after_flush number parts manifest log (memory_of p)
+  flushed_memory parts manifest log next is empty =
       let seen : opened_table emptied ≡ flushed_in_memory (opened_table t) = ap (λ (m : Partitions). record { first = None; frozen = []; memtable = m }) empty in
       let tables_are : map opened_table tables ≡ at_number 1 number flushed_in_memory (map opened_table (held_in p)) =
       ap (map opened_table) cleared ∙ set_numbered opened_table flushed_in_memory number (held_in p) t emptied some there seen in
-      let used_are : used_numbers next ≡ record (used_numbers p.numbers) { log = suc p.numbers.log; «data» = suc p.numbers.«data» } =
+      let used_are : used_numbers next ≡ record (used_numbers p.numbers) { log = suc p.numbers.log; «data» = suc p.numbers.«data»; part = p.numbers.part + length parts } =
       λ i. record { manifest = is.manifest i; log = is.log i; «data» = is.file i; index = is.index i; part = is.part i } in
       λ i. record { definitions = p.schema.definitions; manifest = manifest; log = log; tables = tables_are i; used = used_are i; max_timestamp = p.max_timestamp }
 

@@ -1,23 +1,22 @@
 -- The flush of a table of a store: what it needs, and what the store is afterwards.
-use Rattle.std.proofs.Common.{◌≡◌, ◌≢◌, ◌||◌, ◌&&◌, not, inr, drop, Bool, true, false, cond, nat_eq, nat_le, is_some, ℕ, suc, ◌+◌, ◌-◌, ◌^◌, ◌<◌, ◌≤◌, List, [], ◌∷◌, ◌++◌, length, map, slice_get, Option, None, Some, refl, sym, ap, subst, ◌∙◌, arith}
+use Rattle.std.proofs.Common.{◌≡◌, ◌||◌, ◌&&◌, not, inr, drop, Bool, true, false, cond, nat_eq, nat_le, is_some, ℕ, suc, ◌+◌, ◌-◌, ◌^◌, ◌<◌, ◌≤◌, List, [], ◌∷◌, ◌++◌, length, map, slice_get, Option, None, Some, refl, sym, ap, subst, ◌∙◌, arith}
 use Rattle.std.specs.Prelude.{IsTrue}
 use Rattle.std.proofs.lemmas.Bool.Decides.{nat_tests}
 use Rattle.std.proofs.lemmas.List.{length-map}
 use Rattle.std.specs.FinMap as map_
-use Rattle.std.specs.FinMap.{get}
-use Rattle.std.specs.List.{AllByRecursion}
-use Rattle.std.specs.Ordering.{eq_by_cmp}
+use Rattle.std.specs.List.{AllByRecursion, list_any}
 use Rattle.sasi_host.specs.declared.name.FileName.{FileName}
 use Rattle.sasi_host.proofs.ContentLaws.{told_after, told_before, told_files}
 use Rattle.sasi_host.specs.Disk.{Changes, Relation}
-use Rattle.sasi_host.specs.NameLaws.{same_name, test_here}
-use Rattle.sasi_host.specs.Names.{Bytes, Folder, data_name, log_name, manifest_name, name_cmp}
-use Rattle.sasi_host.specs.View.{IsTold, Reaches, View, contents_in}
+use Rattle.sasi_host.specs.Names.{Bytes, Folder, log_name, manifest_name}
+use Rattle.sasi_host.specs.View.{IsAbsent, IsThere, Reaches, View}
 use Rattle.sasi_body.specs.Body.{HasBody}
 use Rattle.sasi_cells.specs.Maps.{merged}
 use Rattle.sasi_cells.specs.declared.mutation.Mutation.{Mutation}
 use Rattle.sasi_gated.specs.Handles.{Handle}
-use Rattle.sasi_layout.proofs.KeptLaws.{FlushesFiles, dead_segment, flushed_kept, free_name, kept_there, keeps_data, keeps_manifest, keeps_segment, listed_flushed, unlisted_above}
+use Rattle.sasi_layout.proofs.FileNameLaws.{all_names, names_flushed, unlisted_above}
+use Rattle.sasi_layout.proofs.KeptLaws.{dead_segment, free_name, kept_there, keeps_listed, keeps_manifest, keeps_segment, number_above}
+use Rattle.sasi_layout.proofs.KeptOn.{flush_turns, kept_on}
 use Rattle.sasi_layout.proofs.LayoutLaws.{flush_state}
 use Rattle.sasi_commitlog.specs.LogPosition.{IsAtLogEnd}
 use Rattle.sasi_layout.proofs.ListingLaws.{rising_bound}
@@ -25,9 +24,10 @@ use Rattle.sasi_layout.proofs.NewFiles.{ready_flush}
 use Rattle.sasi_layout.proofs.Numbered.{all_changed, seen_at, unseen_at}
 use Rattle.sasi_layout.proofs.Storable.{entries_storable, none_storable}
 use Rattle.sasi_layout.proofs.MovesInOrder.{moved_in_order}
-use Rattle.sasi_layout.specs.Kept.{HasKept, Kept, is_listed}
+use Rattle.sasi_layout.specs.Flushed.{flush_drops, flush_makes}
+use Rattle.sasi_layout.specs.Kept.{HasKept, Kept}
 use Rattle.sasi_layout.specs.Layout.{Layout, TableParts, Used, listing_of, unflushed}
-use Rattle.sasi_layout.specs.Moves.{Flush, after_flush, flush_table, floor_without, lesser, new_listed_file, next_floor}
+use Rattle.sasi_layout.specs.Moves.{Flush, after_flush, flush_parts, flush_table, floor_without, lesser, next_floor}
 use Rattle.sasi_layout.specs.Serving.{AreTablesReady, CanChange, IsLive, IsStorable, IsTableReady, Serves, StoreInMemory, TableInMemory, kept_by, table_in_memory}
 use Rattle.sasi_layout.specs.NumbersInOrder.{HasFilesInOrder, HasIndexesNumbered, Rising}
 use Rattle.sasi_manifest.proofs.Applying.{replace_applies}
@@ -36,8 +36,10 @@ use Rattle.sasi_manifest.specs.declared.listing.Listing.{Listing}
 use Rattle.sasi_manifest.proofs.Replacing.{At}
 use Rattle.sasi_manifest.specs.Consistent.{IsConsistent}
 use Rattle.sasi_manifest.specs.declared.files.ListedFile.{ListedFile}
-use Rattle.sasi_manifest.specs.ListedFiles.{has_file, is_among, with_file, with_files, without}
-use Rattle.sasi_manifest.specs.Edits.{Applies, are_within, encoded, is_new}
+use Rattle.sasi_manifest.specs.declared.files.PartNumber.{PartNumber}
+use Rattle.sasi_manifest.specs.FileNames.{has_name}
+use Rattle.sasi_manifest.specs.ListedFiles.{FitParts, has_file, is_among, with_file, with_files, without}
+use Rattle.sasi_manifest.specs.Edits.{Applies, are_within, encoded, is_new, numbers_at}
 use Rattle.sasi_manifest.specs.Format.{IsNext}
 use Rattle.sasi_manifest.specs.ListedDefinition.{ListedDefinition}
 use Rattle.sasi_manifest.specs.Listings.{at_number, listed_definitions, replaced}
@@ -46,14 +48,15 @@ use Rattle.sasi_memtable.specs.MemtableView.{MemtableView}
 use Rattle.sasi_model.specs.Abbreviations.{Partitions, types_of}
 use Rattle.sasi_model.specs.State.{Definition, max_timestamp}
 use Rattle.sasi_model.specs.Cells.{Partition}
+use Rattle.sasi_types.specs.declared.index_def.IndexDef.{IndexDef}
 use Rattle.sasi_types.specs.declared.column.ColumnType.{ColumnType}
 use Rattle.sasi_types.specs.declared.decorated_key.DecoratedKey.{DecoratedKey}
 use Rattle.sasi_types.specs.declared.partitioner.Partitioner.{Partitioner}
 use Rattle.sasi_store.specs.Floors.{IsUnflushed, floor_in_memory, flushed_in_memory, memory_after_flush}
 use Rattle.sasi_store.proofs.OneMap.{one_map}
-use Rattle.sasi_store.specs.Flushing.{CanFlush, ChangesInFlush, HasFlushedFiles, HaveBodies, IsFlushOf, IsFlushed, edit_of}
+use Rattle.sasi_store.specs.Flushing.{AreTableIndexes, CanFlush, ChangesInFlush, HasFlushedFiles, HaveBodies, IsFlushOf, IsFlushed, edit_of, file_of}
 use Rattle.sasi_store.specs.declared.flush.FlushNumbers.{FlushNumbers}
-use Rattle.sasi_store.proofs.Frames.{reached_there}
+use Rattle.sasi_store.proofs.FlushedNames.{flush_turned}
 use Rattle.sasi_store.proofs.TablesInMemory.{as_many, at_numbered, ready_in_memory, seen_as, there_inside}
 
 -- ---- the floor
@@ -152,7 +155,8 @@ within_all last table n (t ∷ ts) all =
 
 module _ (a : View) (store : StoreInMemory) (ready : CanChange a store) (n : FlushNumbers) (m : MemtableView) (held : IsUnflushed n.table store) (file : n.file ≡ suc store.used.«data») (last : n.last ≡ suc store.manifest.listing.last)
     (floor : n.floor ≡ floor_in_memory 1 n.table n.last store.tables) (fits : (n.table < 2 ^ 32) × (n.file < 2 ^ 32) × (n.last < 2 ^ 32))
-    (memtable : m.partitions ≡ held.there_is.memtable) (under : m.partitioner ≡ store.manifest.listing.partitioner) where
+    (memtable : m.partitions ≡ held.there_is.memtable) (under : m.partitioner ≡ store.manifest.listing.partitioner)
+    (parts : List PartNumber) (fit : FitParts (numbers_at store.manifest.listing.tables n.table) parts) where
   abbrev pub listing : Listing
   listing = store.manifest.listing
 
@@ -175,18 +179,21 @@ module _ (a : View) (store : StoreInMemory) (ready : CanChange a store) (n : Flu
   defined : (d : Definition) × IsTableReady listing.partitioner listing.floor listing.last d held.there_is
   defined = ready_in_memory listing.partitioner listing.floor listing.last (n.table - 1) store.definitions store.tables held.there_is ready.tables held.there
 
-  new_number : is_listed listing.tables n.file ≡ false
-  new_number = unlisted_above store.used.«data» listing.last n.file listing.tables ready.numbered.files (omega (arith, file))
+  new_number : list_any (λ t. has_file t.files n.file) listing.tables ≡ false
+  new_number = number_above store.used.«data» listing.last n.file listing.tables ready.numbered.files (omega (arith, file))
 
-  applies : Applies (Some listing) (edit_of n)
-  applies = replace_applies listing n.table [] (new_listed_file n.file ∷ []) n.last n.floor n.last (record {
+  new_name : (name : FileName) → name.number ≡ n.file → has_name listing.tables name ≡ false
+  new_name name own = unlisted_above store.used.«data» listing.last name listing.tables ready.numbered.files (omega (arith, file, own))
+
+  applies : Applies (Some listing) (edit_of n parts)
+  applies = replace_applies listing n.table [] (file_of n parts ∷ []) n.last n.floor n.last (record {
     some = held.some;
     within = inside;
     table_fits = fits.0;
     few_removed = omega arith;
     current = tt;
     few_added = omega arith;
-    new = (record { some = omega (arith, file); number_fits = fits.1; free = new_is listing.tables n.file new_number; no_parts = refl }, tt);
+    new = (record { some = omega (arith, file); number_fits = fits.1; free = new_is listing.tables n.file new_number; parts = fit }, tt);
     since_some = omega (arith, last);
     since_within = omega arith;
     floor_some = omega (arith, raised, ready.consistent.start.floor_some);
@@ -195,13 +202,13 @@ module _ (a : View) (store : StoreInMemory) (ready : CanChange a store) (n : Flu
     others = subst (λ (k : ℕ). are_within k n.table 1 listing.tables ≡ true) (sym last) (within_all listing.last n.table 1 listing.tables ready.consistent.since);
   })
     where
-      new_is : (ts : List ListedDefinition) (number : ℕ) → is_listed ts number ≡ false → is_new ts [] [] number ≡ true
+      new_is : (ts : List ListedDefinition) (number : ℕ) → list_any (λ t. has_file t.files number) ts ≡ false → is_new ts [] [] number ≡ true
       new_is ts number none = ap (λ b. not (b && not (is_among [] number)) && not (has_file [] number)) none
 
   -- **The flush can be made.**
-  pub can_flush : CanFlush a store.manifest m n
+  pub can_flush : CanFlush a store.manifest m n parts
   can_flush = record {
-    file = free_name a kept (data_name n.file) ready.kept (keeps_data kept n.file ∙ new_number);
+    files = all_names (λ name. IsAbsent a name) (file_of n parts) (λ name kind own. free_name a kept name ready.kept (keeps_listed kept name kind ∙ new_name name own));
     segment = free_name a kept (log_name n.last) ready.kept (dead_segment kept n.last (inr (omega (arith, last))));
     former = λ segment above under. kept_there a kept (log_name segment) ready.kept (keeps_segment kept segment above (omega (arith, under, below, last)));
     room = ready.manifest_room;
@@ -214,60 +221,42 @@ module _ (a : View) (store : StoreInMemory) (ready : CanChange a store) (n : Flu
 
   -- ---- what the manifest lists then
 
-  module _ (next : Listing) (is : IsNext listing (edit_of n ∷ []) next) where
-    pub listed_after : (next.partitioner ≡ listing.partitioner) × (next.floor ≡ n.floor) × (next.last ≡ n.last) × (next.tables ≡ at_number 1 n.table (replaced [] (new_listed_file n.file ∷ []) n.last) listing.tables)
+  module _ (next : Listing) (is : IsNext listing (edit_of n parts ∷ []) next) where
+    pub listed_after : (next.partitioner ≡ listing.partitioner) × (next.floor ≡ n.floor) × (next.last ≡ n.last) × (next.tables ≡ at_number 1 n.table (replaced [] (file_of n parts ∷ []) n.last) listing.tables)
     listed_after = (cc, cc, cc, cc)
 
     pub next_consistent : IsConsistent next
-    next_consistent = record_consistent (Some listing) (encoded (edit_of n ∷ [])) (edit_of n ∷ []) next (applies, tt) is ready.consistent
+    next_consistent = record_consistent (Some listing) (encoded (edit_of n parts ∷ [])) (edit_of n parts ∷ []) next (applies, tt) is ready.consistent
 
     pub next_definitions : store.definitions ≡ listed_definitions next.tables
-    next_definitions = ready.definitions ∙ sym (unseen_at (λ (t : ListedDefinition). t.definition) (replaced [] (new_listed_file n.file ∷ []) n.last) (λ t. refl) 1 n.table listing.tables) ∙ ap listed_definitions (sym listed_after.3)
+    next_definitions = ready.definitions ∙ sym (unseen_at (λ (t : ListedDefinition). t.definition) (replaced [] (file_of n parts ∷ []) n.last) (λ t. refl) 1 n.table listing.tables) ∙ ap listed_definitions (sym listed_after.3)
 
     pub next_files : AllByRecursion (HasFilesInOrder n.file next.last) next.tables
-    next_files = rw (listed_after.2, listed_after.3) (all_changed (HasFilesInOrder store.used.«data» listing.last) (HasFilesInOrder n.file n.last) (replaced [] (new_listed_file n.file ∷ []) n.last)
-        (λ t in_order. record { rise = rising_with (new_listed_file n.file) 0 store.used.«data» t.files in_order.rise (omega (arith, file)); since = omega arith })
+    next_files = rw (listed_after.2, listed_after.3) (all_changed (HasFilesInOrder store.used.«data» listing.last) (HasFilesInOrder n.file n.last) (replaced [] (file_of n parts ∷ []) n.last)
+        (λ t in_order. record { rise = rising_with (file_of n parts) 0 store.used.«data» t.files in_order.rise (omega (arith, file)); since = omega arith })
         (λ t in_order. record { rise = rising_higher 0 store.used.«data» n.file t.files (omega (arith, file)) in_order.rise; since = omega (arith, in_order.since, last) })
         1 n.table listing.tables ready.numbered.files)
 
     pub next_indexes : AllByRecursion (HasIndexesNumbered store.used.index) next.tables
-    next_indexes = rw listed_after.3 (all_changed (HasIndexesNumbered store.used.index) (HasIndexesNumbered store.used.index) (replaced [] (new_listed_file n.file ∷ []) n.last)
+    next_indexes = rw listed_after.3 (all_changed (HasIndexesNumbered store.used.index) (HasIndexesNumbered store.used.index) (replaced [] (file_of n parts ∷ []) n.last)
         (λ t numbered. record { counted = numbered.counted; within = numbered.within }) (λ t numbered. numbered) 1 n.table listing.tables ready.numbered.indexes)
 
     -- the files of the folder afterwards
-    pub next_kept : (b : View) (manifest : ManifestState) → manifest.listing ≡ next → manifest.number ≡ store.manifest.number → Changes (ChangesInFlush store.manifest.number listing.floor n) a b → HasFlushedFiles b listing.floor n
+    pub next_kept : (b : View) (manifest : ManifestState) → manifest.listing ≡ next → manifest.number ≡ store.manifest.number → Changes (ChangesInFlush store.manifest.number listing.floor n parts) a b → HasFlushedFiles b listing.floor n parts
         → Reaches b (manifest_name manifest.number) (manifest.at + 1) → (folder : Folder) → b.files ≡ Some folder → HasKept (record { manifest = manifest.number; listing = manifest.listing }) folder
     next_kept b manifest listed number change flushed room folder files =
-        let was = told_files a (told_before (ChangesInFlush store.manifest.number listing.floor n) a b change (ap (λ (o : Option Folder). is_some o) files)) in
-        let now = change.seen was.0 was.1 in
-        let same : now.0 ≡ folder = one_folder now.0 folder (sym now.1 ∙ files) in
-        let step : ChangesInFlush store.manifest.number listing.floor n was.0 folder = subst (ChangesInFlush store.manifest.number listing.floor n was.0) same now.2 in
+        let was = told_files a (told_before (ChangesInFlush store.manifest.number listing.floor n parts) a b change (ap (λ (o : Option Folder). is_some o) files)) in
+        let before : IsThere a (manifest_name store.manifest.number) = kept_there a kept (manifest_name store.manifest.number) ready.kept (keeps_manifest kept) in
+        let after : IsThere b (manifest_name store.manifest.number) = subst (λ (k : ℕ). IsThere b (manifest_name k)) number (λ told. (let there = room told in ap (λ (o : Option Bytes). is_some o) there.1)) in
+        let turned = flush_turned n parts store.manifest.number listing.floor a b was.0 folder was.1 files before after flushed change in
         subst (λ (k : ℕ). HasKept (record { manifest = k; listing = manifest.listing }) folder) (sym number)
         (subst (λ (e : Listing). HasKept (record { manifest = store.manifest.number; listing = e }) folder) (sym listed)
-        (flushed_kept kept (record { manifest = store.manifest.number; listing = next }) n.file refl (listed_after.2 ∙ last)
+        (kept_on (flush_makes (file_of n parts) next.last) (flush_drops listing.floor next.floor) kept (record { manifest = store.manifest.number; listing = next }) was.0 folder
+        (flush_turns kept (record { manifest = store.manifest.number; listing = next }) (file_of n parts) refl (listed_after.2 ∙ last)
         (subst (λ (k : ℕ). listing.floor ≤ k) (sym listed_after.1) raised)
         (rw (listed_after.1, listed_after.2) below)
-        (λ number. ap (λ (ts : List ListedDefinition). is_listed ts number) listed_after.3 ∙ listed_flushed number n.file n.table n.last 1 listing.tables held.some (omega (arith, inside)))
-        was.0 folder (rw (listed_after.1, listed_after.2) (files_are was.0 folder step files was.1)) (ready.kept was.0 was.1)))
-      where
-        files_are : (x y : Folder) → ChangesInFlush store.manifest.number listing.floor n x y → b.files ≡ Some y → a.files ≡ Some x → FlushesFiles n.file n.last listing.floor n.floor x y
-        files_are x y step seen before =
-            let told : IsTold b = ap (λ (o : Option Folder). is_some o) seen in
-            record {
-              new_data = subst (λ (o : Option Folder). is_some (contents_in o (data_name n.file)) ≡ true) seen (flushed.file told);
-              segment = subst (λ (o : Option Folder). is_some (contents_in o (log_name n.last)) ≡ true) seen (flushed.segment told);
-              gone = λ segment above under. subst (λ (o : Option Folder). contents_in o (log_name segment) ≡ None) seen (flushed.gone segment above under);
-              others = λ name no_data no_log old. by name no_data no_log old (eq_by_cmp name_cmp name (manifest_name store.manifest.number)) refl;
-            }
-          where
-            by : (name : FileName) → name ≢ data_name n.file → name ≢ log_name n.last → ((segment : ℕ) → listing.floor ≤ segment → segment < n.floor → name ≢ log_name segment)
-                → (t : Bool) → eq_by_cmp name_cmp name (manifest_name store.manifest.number) ≡ t → is_some (get y name) ≡ is_some (get x name)
-            by name no_data no_log old true is =
-                let same = same_name name (manifest_name store.manifest.number) is in
-                let here : is_some (get y (manifest_name store.manifest.number)) ≡ true = reached_there b (manifest_name store.manifest.number) (manifest.at + 1) (subst (λ (k : ℕ). Reaches b (manifest_name k) (manifest.at + 1)) number room) y seen in
-                ap (λ (k : FileName). is_some (get y k)) same ∙ here ∙ sym (ready.kept x before (manifest_name store.manifest.number) ∙ keeps_manifest kept) ∙ ap (λ (k : FileName). is_some (get x k)) (sym same)
-            by name no_data no_log old false is =
-                ap (λ (o : Option Bytes). is_some o) (step name no_data no_log (λ same. never (sym (ap (λ (k : FileName). eq_by_cmp name_cmp k (manifest_name store.manifest.number)) same ∙ test_here (manifest_name store.manifest.number)) ∙ is)) old)
+        (λ name. ap (λ (ts : List ListedDefinition). has_name ts name) listed_after.3 ∙ names_flushed name (file_of n parts) n.table n.last listing.tables held.some (omega (arith, inside))))
+        (rw (listed_after.1, listed_after.2) turned) (ready.kept was.0 was.1)))
 
   -- ---- the layout
 
@@ -292,8 +281,8 @@ module _ (a : View) (store : StoreInMemory) (ready : CanChange a store) (n : Flu
         (ap (λ (k : List Partitions). merged (k ++ t.0.memtable ∷ [])) frozen ∙ ap (λ (h : TableInMemory). merged (h.memtable ∷ [])) t.2 ∙ one_map listing.partitioner (types_of defined.0) held.there_is.memtable defined.1.memtable ∙ sym memtable)
 
     -- **It is the flush of the layout's table.**
-    pub flush_of : IsFlushOf a store.manifest m n l logs
-    flush_of = record {
+    pub flush_of : (defs : List IndexDef) → parts ≡ flush_parts n.table l → At 1 n.table (AreTableIndexes defs) l.tables → IsFlushOf a store.manifest m n defs parts l logs
+    flush_of defs parts_are indexes = record {
       shape = serves.shape;
       in_order = serves.in_order;
       number = serves.manifest;
@@ -302,21 +291,25 @@ module _ (a : View) (store : StoreInMemory) (ready : CanChange a store) (n : Flu
       file = file_is;
       last = last_is;
       floor = floor_of;
+      parts_are = parts_are;
       holds = unflushed_is;
       storable = ready_flush a store l n.table ready serves;
+      indexes = indexes;
     }
 
     -- **The store serves the layout after it.**
-    pub flush_serves : {S : Relation} (manifest : ManifestState) (log : Handle) → Changes S a b → manifest.number ≡ store.manifest.number → log.file ≡ log_name n.last → IsFlushed b manifest log n l logs → Serves b (memory_after_flush n.table manifest log store) (after_flush n.table l)
-    flush_serves {S} manifest log change number log_file flushed =
+    pub flush_serves : {S : Relation} (manifest : ManifestState) (log : Handle) → Changes S a b → manifest.number ≡ store.manifest.number → log.file ≡ log_name n.last → parts ≡ flush_parts n.table l → IsFlushed b manifest log n l logs → Serves b (memory_after_flush n.table parts manifest log store) (after_flush n.table l)
+    flush_serves {S} manifest log change number log_file parts_are flushed =
         let used_log : store.used.log ≡ l.last = ready.numbered.log_is ∙ ap (λ (e : Listing). e.last) serves.listing in
-        let change_table : TableParts → TableParts = flush_table (suc l.used.«data») (suc l.last) in
+        let change_table : TableParts → TableParts = flush_table (suc l.used.«data») l.used.part (suc l.last) in
         record {
           told = told_after S a b change serves.told;
           in_order = moved_in_order (Flush n.table) l tt serves.in_order;
           definitions = serves.definitions ∙ sym (unseen_at (λ (t : TableParts). t.definition) change_table (λ t. refl) 1 n.table l.tables);
           tables = ap (at_number 1 n.table flushed_in_memory) serves.tables ∙ sym (seen_at table_in_memory change_table flushed_in_memory (λ t. refl) 1 n.table l.tables);
-          used = ap (λ (k : ℕ). record store.used { log = suc k; «data» = suc store.used.«data» }) used_log ∙ ap (λ (u : Used). record u { log = suc l.last; «data» = suc u.«data» }) serves.used;
+          used = ap (λ (k : ℕ). record store.used { log = suc k; «data» = suc store.used.«data»; part = store.used.part + length parts }) used_log
+              ∙ ap (λ (u : Used). record u { log = suc l.last; «data» = suc u.«data»; part = u.part + length parts }) serves.used
+              ∙ ap (λ (ps : List PartNumber). record l.used { log = suc l.last; «data» = suc l.used.«data»; part = l.used.part + length ps }) parts_are;
           timestamp = serves.timestamp ∙ sym (ap max_timestamp (flush_state n.table l));
           listing = flushed.listing;
           manifest = number ∙ serves.manifest;
@@ -329,9 +322,9 @@ module _ (a : View) (store : StoreInMemory) (ready : CanChange a store) (n : Flu
         }
 
   -- **It is ready after it.**
-  pub flush_ready : (b : View) (manifest : ManifestState) (log : Handle) → IsNext listing (edit_of n ∷ []) manifest.listing → manifest.number ≡ store.manifest.number → Reaches b (manifest_name manifest.number) (manifest.at + 1) → IsTrue manifest.usable
-      → log.file ≡ log_name n.last → Reaches b log.file (log.at + 1) → IsTrue log.usable → Changes (ChangesInFlush store.manifest.number listing.floor n) a b → HasFlushedFiles b listing.floor n
-      → (ManifestStands a store.manifest.number store.manifest.at listing → ManifestStands b manifest.number manifest.at manifest.listing) → CanChange b (memory_after_flush n.table manifest log store)
+  pub flush_ready : (b : View) (manifest : ManifestState) (log : Handle) → IsNext listing (edit_of n parts ∷ []) manifest.listing → manifest.number ≡ store.manifest.number → Reaches b (manifest_name manifest.number) (manifest.at + 1) → IsTrue manifest.usable
+      → log.file ≡ log_name n.last → Reaches b log.file (log.at + 1) → IsTrue log.usable → Changes (ChangesInFlush store.manifest.number listing.floor n parts) a b → HasFlushedFiles b listing.floor n parts
+      → (ManifestStands a store.manifest.number store.manifest.at listing → ManifestStands b manifest.number manifest.at manifest.listing) → CanChange b (memory_after_flush n.table parts manifest log store)
   flush_ready b manifest log is number room usable log_file log_room log_usable change flushed stands =
       let after = listed_after manifest.listing is in
       record {
@@ -352,6 +345,6 @@ module _ (a : View) (store : StoreInMemory) (ready : CanChange a store) (n : Flu
         log_room = log_room;
         manifest_usable = usable;
         log_usable = log_usable;
-        stands = λ told. stands (ready.stands (told_before (ChangesInFlush store.manifest.number listing.floor n) a b change told));
+        stands = λ told. stands (ready.stands (told_before (ChangesInFlush store.manifest.number listing.floor n parts) a b change told));
         kept = next_kept manifest.listing is b manifest refl number change flushed room;
       }

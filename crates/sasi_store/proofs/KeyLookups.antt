@@ -141,10 +141,10 @@ record HasContents (folder : Folder) (p : Partitioner) (types : List ColumnType)
   pub contents_are : contents ≡ map (λ (f : File). content_of f.holds) fs
   pub decorated_all : AllByRecursion (AreDecorated p) (map (λ (f : File). f.holds) fs)
 
-has_contents : (folder : Folder) (p : Partitioner) (d : Definition) (fs : List File) → AllByRecursion (HasFile folder p d) fs → HasContents folder p (types_of d) (map (λ (f : File). f.listed) fs) fs
-has_contents folder p d [] all = record { contents = []; have = tt; maps_are = refl; contents_are = refl; decorated_all = tt }
-has_contents folder p d (f ∷ fs) all =
-    let rest = has_contents folder p d fs all.1 in
+has_contents : (folder : Folder) (p : Partitioner) (d : Definition) (ns : List ℕ) (fs : List File) → AllByRecursion (HasFile folder p d ns) fs → HasContents folder p (types_of d) (map (λ (f : File). f.listed) fs) fs
+has_contents folder p d ns [] all = record { contents = []; have = tt; maps_are = refl; contents_are = refl; decorated_all = tt }
+has_contents folder p d ns (f ∷ fs) all =
+    let rest = has_contents folder p d ns fs all.1 in
     let one = all.0 in
     let here = one.holds in
     let back = sym (content_back p one.content one.data_file.content_is.rising) ∙ ap content_of (sym here) in
@@ -160,7 +160,7 @@ has_contents folder p d (f ∷ fs) all =
 
 module _ (seen : Option Folder) (folder : Folder) (p : Partitioner) (types : List ColumnType) (files : List ListedFile) (ms : List MemtableView) (t : TableParts) (told : seen ≡ Some folder) (is : IsTableOf folder p types files (map (λ (m : MemtableView). m.partitions) ms) t) where
   all : HasContents folder p (types_of t.definition) (map (λ (f : File). f.listed) t.files) t.files
-  all = has_contents folder p t.definition t.files is.have
+  all = has_contents folder p t.definition t.numbers t.files is.have
 
   -- the files have the contents of the table's data files
   pub table_contents : AreContents seen p types files (file_contents t)

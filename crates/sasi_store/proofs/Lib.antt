@@ -11,7 +11,10 @@ mod KeyFinding
 mod KeyRows
 pub mod SegmentDeletions
 pub mod MapWriting
+pub mod PushFaults
+pub mod SealedMaps
 pub mod FlushFrames
+pub mod FlushedIndexes
 pub mod FlushLaws
 pub mod FlushedFiles
 pub mod FlushedNames
@@ -21,6 +24,8 @@ pub mod HeldMaps
 pub mod HeldChanges
 pub mod AddedToMaps
 pub mod IndexedTables
+pub mod BuiltIndexes
+pub mod DrawnParts
 pub mod FlushedMaps
 pub mod DefinedMaps
 pub mod DefinedParts
@@ -37,6 +42,7 @@ pub mod Composition
 pub mod Stepping
 pub mod FloorLaws
 pub mod FlushingParts
+pub mod FlushPrepared
 pub mod Selecting
 pub mod Prepared
 pub mod Known

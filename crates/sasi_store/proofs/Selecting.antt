@@ -1,17 +1,17 @@
 -- A SELECT over the table of a store.
-use Rattle.std.proofs.Common.{◌≡◌, ◌<◌, ◌-◌, ◌||◌, Bool, true, false, nat_eq, is_some, ℕ, zero, suc, List, [], ◌∷◌, ◌++◌, length, map, get_or, slice_get, slice_index_or, Option, None, Some, inr, refl, sym, ap, subst, ◌∙◌, arith}
+use Rattle.std.proofs.Common.{◌≡◌, ◌<◌, ◌-◌, ◌||◌, ◌&&◌, Bool, true, false, nat_eq, is_some, ℕ, zero, suc, List, [], ◌∷◌, ◌++◌, length, map, get_or, slice_get, slice_index_or, Option, None, Some, inr, refl, sym, ap, subst, ◌∙◌, arith}
 use Rattle.std.specs.Prelude.{Contains}
 use Rattle.std.proofs.lemmas.Bool.Decides.{nat_tests}
 use Rattle.std.proofs.lemmas.List.{length-map}
 use Rattle.std.specs.FinMap.{entries, get}
-use Rattle.std.specs.List.{AllByRecursion}
+use Rattle.std.specs.List.{AllByRecursion, list_any}
 use Rattle.std.specs.Option.{option_map_or}
 use Rattle.sasi_cells.specs.Rows.{IsStored}
 use Rattle.sasi_machine.proofs.StatementPreparing.{body_stored}
 use Rattle.sasi_cells.specs.declared.mutation.Mutation.{Mutation}
 use Rattle.sasi_dataread.specs.Damages.{ShowsDataFile, inside, opened_by, outside}
 use Rattle.sasi_folder.specs.Damages as folders
-use Rattle.sasi_folder.specs.Damages.{FolderShows, broken_content, broken_data, broken_ends}
+use Rattle.sasi_folder.specs.Damages.{FolderShows, broken_content, broken_ends, broken_file}
 use Rattle.sasi_folder.specs.FolderContents.{IsSealed}
 use Rattle.sasi_host.specs.Damages.{OnDamage}
 use Rattle.sasi_host.specs.declared.damage.Damage.{Damage}
@@ -20,9 +20,11 @@ use Rattle.sasi_host.specs.declared.fault.ReadFault.TheVariants as read
 use Rattle.sasi_host.proofs.ContentLaws.{told_files}
 use Rattle.sasi_host.specs.Names.{Bytes, Folder, data_name, seal_name}
 use Rattle.sasi_host.specs.View.{IsSound, IsThere, View, contents_in}
+use Rattle.sasi_layout.proofs.FileNameLaws.{data_named, other_kind}
 use Rattle.sasi_layout.proofs.KeptLaws.{keeps_data, keeps_seal, kept_there}
 use Rattle.sasi_layout.proofs.Trails.{manifest_each}
-use Rattle.sasi_layout.specs.Kept.{Kept, is_kept, is_listed}
+use Rattle.sasi_layout.specs.Kept.{Kept, is_kept}
+use Rattle.sasi_manifest.specs.FileNames.{has_name}
 use Rattle.sasi_layout.specs.Layout.{File, Layout, TableParts, bare_table, listed_of, state_of, table_of, unflushed}
 use Rattle.sasi_layout.specs.Serving as layout
 use Rattle.sasi_layout.specs.Serving.{CanChange, Serves, TableInMemory, kept_by}
@@ -120,19 +122,23 @@ has_each (f ∷ fs) =
     let own : nat_eq f.number f.number ≡ true = grind (arith, nat_tests) in
     (or_left (has_file fs f.number) own, all_then (λ (g : ListedFile). has_file fs g.number ≡ true) (λ (g : ListedFile). has_file (f ∷ fs) g.number ≡ true) (λ g is. or_right (nat_eq g.number f.number) is) fs (has_each fs))
 
-listed_any : (tables : List ListedDefinition) (at : ℕ) (t : ListedDefinition) → slice_get tables at ≡ Some t → (n : ℕ) → has_file t.files n ≡ true → is_listed tables n ≡ true
+listed_any : (tables : List ListedDefinition) (at : ℕ) (t : ListedDefinition) → slice_get tables at ≡ Some t → (n : ℕ) → has_file t.files n ≡ true → list_any (λ t. has_file t.files n) tables ≡ true
 listed_any [] at t there n has = cc
-listed_any (x ∷ tables) zero t there n has = let same : x ≡ t = cc in or_left (is_listed tables n) (ap (λ (d : ListedDefinition). has_file d.files n) same ∙ has)
+listed_any (x ∷ tables) zero t there n has = let same : x ≡ t = cc in or_left (list_any (λ t. has_file t.files n) tables) (ap (λ (d : ListedDefinition). has_file d.files n) same ∙ has)
 listed_any (x ∷ tables) (suc at) t there n has = or_right (has_file x.files n) (listed_any tables at t there n has)
 
-shaped_at : (folder : Folder) (p : Partitioner) (floor n : ℕ) (logs : List (List Mutation)) (ts : List TableParts) (at : ℕ) (t : TableParts) → AreShaped folder p floor n logs (map bare_table ts) → slice_get ts at ≡ Some t → AllByRecursion (HasFile folder p t.definition) t.files
+shaped_at : (folder : Folder) (p : Partitioner) (floor n : ℕ) (logs : List (List Mutation)) (ts : List TableParts) (at : ℕ) (t : TableParts) → AreShaped folder p floor n logs (map bare_table ts) → slice_get ts at ≡ Some t → AllByRecursion (HasFile folder p t.definition t.numbers) t.files
 shaped_at folder p floor n logs [] at t are there = cc
-shaped_at folder p floor n logs (x ∷ ts) zero t are there = let same : x ≡ t = cc in subst (λ (t : TableParts). AllByRecursion (HasFile folder p t.definition) t.files) same are.0.files
+shaped_at folder p floor n logs (x ∷ ts) zero t are there = let same : x ≡ t = cc in subst (λ (t : TableParts). AllByRecursion (HasFile folder p t.definition t.numbers) t.files) same are.0.files
 shaped_at folder p floor n logs (x ∷ ts) (suc at) t are there = shaped_at folder p floor (suc n) logs ts at t are.1 there
 
 -- no seal with a higher number is kept
 unkept_seal : (k : Kept) (other : ℕ) → k.manifest < other → is_kept k (seal_name other) ≡ false
-unkept_seal k other above = grind (arith, nat_tests, above)
+unkept_seal k other above = by (nat_eq other k.manifest) (has_name k.listing.tables (seal_name other)) (grind (arith, nat_tests, above)) (other_kind (seal_name other) k.listing.tables (omega arith))
+  where
+    by : (a b : Bool) → a ≡ false → b ≡ false → ((((true && a) && true) && true) || b) ≡ false
+    by true b apart unlisted = cc
+    by false b apart unlisted = unlisted
 
 -- ---- faults
 
@@ -316,17 +322,17 @@ module _ (v : View) (sound : IsSound v) (p : Parts) (ready : CanChange v (memory
       let n = shows.file.number in
       let contained : Contains defined.0.files shows.file = subst (λ (fs : List ListedFile). Contains fs shows.file) (has.files_are ∙ listed_files) shows.listed in
       let holds : has_file defined.0.files n ≡ true = all_within (λ (f : ListedFile). has_file defined.0.files f.number ≡ true) defined.0.files shows.file contained.0 contained.1 contained.2 (has_each defined.0.files) in
-      let is_in : is_listed listing.tables n ≡ true = listed_any listing.tables at defined.0 defined.1 n holds in
+      let is_in : list_any (λ t. has_file t.files n) listing.tables ≡ true = listed_any listing.tables at defined.0 defined.1 n holds in
       let bytes = some_in (get folder (data_name n)) (ready.kept folder now (data_name n) ∙ keeps_data (kept_by (memory_of p)) n ∙ is_in) in
       inr (record {
         number = p.manifest.number;
         sealed = sealed folder now;
-        shows = broken_data stands.at_end.bytes listing (manifest.0 folder (sound.reads folder now)) manifest.1
+        shows = broken_file stands.at_end.bytes listing (manifest.0 folder (sound.reads folder now)) manifest.1
             (by n bytes.0 is_in bytes.1 holds (shows.shown bytes.0 (ap (λ (o : Option Folder). contents_in o (data_name n)) now ∙ bytes.1)));
       })
     where
-      by : (n : ℕ) (bytes : Bytes) → is_listed listing.tables n ≡ true → get folder (data_name n) ≡ Some bytes → has_file defined.0.files n ≡ true → ShowsDataFile types (data_name n) bytes damage → folders.ShowsListedDataFile folder listing.tables damage
-      by n bytes is_in there holds (outside shown) = broken_ends n bytes is_in there shown
+      by : (n : ℕ) (bytes : Bytes) → list_any (λ t. has_file t.files n) listing.tables ≡ true → get folder (data_name n) ≡ Some bytes → has_file defined.0.files n ≡ true → ShowsDataFile types (data_name n) bytes damage → folders.ShowsListedFile folder listing.tables damage
+      by n bytes is_in there holds (outside shown) = broken_ends (data_name n) bytes (data_named n listing.tables ∙ is_in) there shown
       by n bytes is_in there holds (inside numbers parts shown) = broken_content n bytes (opened_by (data_name n) types numbers) there (record {
         table = defined.0;
         listed = (at, there_inside listing.tables at defined.0 defined.1, index_there listing.tables at defined.0 defined.1);

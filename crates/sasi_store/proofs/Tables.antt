@@ -39,10 +39,10 @@ record FilesHave (folder : Folder) (p : Partitioner) (types : List ColumnType) (
   pub have : AreContents (Some folder) p types files contents
   pub maps_are : maps_of (map (entries_of p) contents) ≡ map (λ (f : AFile). f.holds) fs
 
-files_have : (folder : Folder) (p : Partitioner) (d : Definition) (fs : List AFile) → AllByRecursion (HasFile folder p d) fs → FilesHave folder p (types_of d) (map (λ (f : AFile). f.listed) fs) fs
-files_have folder p d [] all = record { contents = []; have = tt; maps_are = refl }
-files_have folder p d (f ∷ fs) all =
-    let rest = files_have folder p d fs all.1 in
+files_have : (folder : Folder) (p : Partitioner) (d : Definition) (ns : List ℕ) (fs : List AFile) → AllByRecursion (HasFile folder p d ns) fs → FilesHave folder p (types_of d) (map (λ (f : AFile). f.listed) fs) fs
+files_have folder p d ns [] all = record { contents = []; have = tt; maps_are = refl }
+files_have folder p d ns (f ∷ fs) all =
+    let rest = files_have folder p d ns fs all.1 in
     let here = all.0.holds in
     let others = rest.maps_are in
     record {
@@ -67,7 +67,7 @@ pub record IsScanned (folder : Folder) (p : Partitioner) (types : List ColumnTyp
 
 pub table_scanned : (folder : Folder) (p : Partitioner) (types : List ColumnType) (files : List ListedFile) (ms : List MemtableView) (t : TableParts) → IsTableOf folder p types files (map (λ (m : MemtableView). m.partitions) ms) t → IsScanned folder p types files ms t
 table_scanned folder p types files ms t is =
-    let all = files_have folder p t.definition t.files is.have in
+    let all = files_have folder p t.definition t.numbers t.files is.have in
     record {
       contents = all.contents;
       have = subst (λ (ts : List ColumnType). AreContents (Some folder) p ts files all.contents) (sym is.types_are)

@@ -1,9 +1,10 @@
 -- The first live segment after the flush of a table, and what a flush leaves in memory.
-use Rattle.std.specs.Prelude.{◌≡◌, ◌-◌, ◌<◌, ◌≤◌, ℕ, suc, nat_eq, if◌then◌else◌, List, [], ◌∷◌, length, slice_get, Option, None, Some}
+use Rattle.std.specs.Prelude.{◌≡◌, ◌+◌, ◌-◌, ◌<◌, ◌≤◌, ℕ, suc, nat_eq, if◌then◌else◌, List, [], ◌∷◌, length, slice_get, Option, None, Some}
 use Rattle.std.specs.FinMap as map_
 use Rattle.sasi_gated.specs.Handles.{Handle}
 use Rattle.sasi_layout.specs.Moves.{lesser}
 use Rattle.sasi_layout.specs.Serving.{StoreInMemory, TableInMemory}
+use Rattle.sasi_manifest.specs.declared.files.PartNumber.{PartNumber}
 use Rattle.sasi_manifest.specs.Listings.{at_number}
 use Rattle.sasi_manifest.specs.OpenManifest.{ManifestState}
 
@@ -16,13 +17,13 @@ floor_in_memory n table last (t ∷ ts) = if nat_eq n table then floor_in_memory
 abbrev pub flushed_in_memory : TableInMemory → TableInMemory
 flushed_in_memory t = record { first = None; frozen = []; memtable = map_.empty }
 
--- the store after the flush of a table, whose manifest and log go on from there
-abbrev pub memory_after_flush : ℕ → ManifestState → Handle → StoreInMemory → StoreInMemory
-memory_after_flush table manifest log store = record store {
+-- the store after the flush of a table, whose manifest and log go on from there, and whose file has index files of these parts
+abbrev pub memory_after_flush : ℕ → List PartNumber → ManifestState → Handle → StoreInMemory → StoreInMemory
+memory_after_flush table parts manifest log store = record store {
   manifest = manifest;
   log = log;
   tables = at_number 1 table flushed_in_memory store.tables;
-  used = record store.used { log = suc store.used.log; «data» = suc store.used.«data» };
+  used = record store.used { log = suc store.used.log; «data» = suc store.used.«data»; part = store.used.part + length parts };
 }
 
 -- the table is there, with something in its memtable

@@ -11,6 +11,7 @@ pub mod KeyLookups
 pub mod Steps
 pub mod Floors
 pub mod Numbers
+pub mod FlushDraws
 pub mod Flushing
 pub mod Sources
 pub mod Left

@@ -84,4 +84,4 @@ pub record IsTableOf (folder : Folder) (partitioner : Partitioner) (types : List
   pub types_are : types ≡ types_of t.definition
   pub files_are : files ≡ map (λ (f : AFile). f.listed) t.files
   pub maps_are : maps ≡ unflushed t
-  pub have : AllByRecursion (HasFile folder partitioner t.definition) t.files
+  pub have : AllByRecursion (HasFile folder partitioner t.definition t.numbers) t.files

@@ -1,51 +1,63 @@
-// Writes the data file of a memtable.
-ghost use Rattle.std.specs.Prelude.{◌≡◌, ◌≢◌, ◌≤◌, [], length, IfOk, OnOk, IsTrue};
-ghost use Rattle.std.specs.FinMap as map;
+// Writes the data file of a memtable, with its index files.
+ghost use Rattle.std.specs.Prelude.{◌≡◌, ◌≢◌, ◌≤◌, [], length, map, IfOk, OnOk, IsTrue};
+ghost use Rattle.std.specs.List.{AllByRecursion};
+ghost use Rattle.std.specs.FinMap as fin;
 ghost use Rattle.sasi_types.specs.declared.class.Class.{Class};
 ghost use Rattle.sasi_host.specs.declared.damage.Damage.{Damage as ADamage};
 ghost use Rattle.sasi_host.specs.Names.{data_name};
-ghost use Rattle.sasi_host.specs.View.{IsAbsent, ListCauses, Reaches};
-ghost use Rattle.sasi_host.specs.Disk.{AnyChange, Changes, FileChange, IsFileDurable};
+ghost use Rattle.sasi_host.specs.View.{ListCauses, Reaches};
+ghost use Rattle.sasi_host.specs.Disk.{AnyChange, Changes, FileChange, Within};
 ghost use Rattle.sasi_datawrite.specs.Causes.{PushCauses, of_host};
 ghost use Rattle.sasi_datawrite.specs.declared.fault.PairFault.TheVariants as pair;
-ghost use Rattle.sasi_datawrite.specs.Format.{data_bytes};
-ghost use Rattle.sasi_datawrite.specs.Writing.{IsWriting};
-ghost use Rattle.sasi_layout.specs.Flushed.{contents_of};
+ghost use Rattle.sasi_layout.specs.Flushed.{contents_of, is_name_of};
 ghost use Rattle.sasi_layout.specs.Moves.{new_listed_file};
-ghost use Rattle.sasi_store.specs.Flushing.{HaveBodies};
+ghost use Rattle.sasi_manifest.specs.ListedFiles.{names_of};
+ghost use Rattle.sasi_memindex.specs.Book.{AreValuesOf};
+ghost use Rattle.sasi_pairs.specs.Gathered.{defs_of};
+ghost use Rattle.sasi_pairs.specs.PairViews.{IsPairing};
+ghost use Rattle.sasi_pairs.specs.SealedFiles.{AreAbsent};
+ghost use Rattle.sasi_store.specs.Flushing.{AreFree, AreWritten, CanIndex, HaveBodies};
+ghost use Rattle.sasi_store.specs.Held.{KnowsDef};
 
+use sasi_analyzers::Kit;
 use sasi_host::{DataNumber, Host, HostFault};
 use sasi_manifest::PartNumbers;
 use sasi_memtable::Memtable;
 use sasi_pairs::{PairFault, PairWriter, Sealed};
-use sasi_types::Partitioner;
+use sasi_types::{IndexList, Partitioner};
 use std::alloc::Global;
 
-/// Writes the partitions of a memtable to the data file with this number. Then each image has the file.
+/// Writes the partitions of a memtable to the data file with this number, and the index files of these definitions as these
+/// parts. Then each image has the files.
 pub fn write_file<H: Host>(
     alloc: Global,
     host: &mut H,
+    kit: &mut Kit,
     number: DataNumber,
     partitioner: Partitioner,
     memtable: &Memtable,
+    defs: &IndexList,
+    parts: &PartNumbers,
 ) -> Result<Sealed, HostFault>
-    requires absent { IsAbsent (H.view host.old) (data_name number) }
+    requires files { AreFree (H.view host.old) (names_of (new_listed_file number parts.now)) }
     requires partitioner { memtable.now.partitioner ≡ partitioner }
-    requires some { 1 ≤ length (map.entries memtable.now.partitions) }
+    requires some { 1 ≤ length (fin.entries memtable.now.partitions) }
     requires bodies { HaveBodies memtable.now.partitions }
-    ensures durable { OnOk result (IsFileDurable (H.view host.new) (data_name number) (data_bytes partitioner (contents_of memtable.now.partitions))) }
-    ensures sealed { IfOk result (λ sealed. sealed ≡ new_listed_file number) }
-    ensures changes { Changes (FileChange (data_name number) AnyChange) (H.view host.old) (H.view host.new) }
+    requires indexes { CanIndex (map (λ b. kind (b.vtable, b.value)) kit.old.objects.items) memtable.now.partitions defs.now parts.now }
+    ensures written { OnOk result (AreWritten (H.view host.new) number partitioner defs.now parts.now (contents_of memtable.now.partitions)) }
+    ensures sealed { IfOk result (λ sealed. sealed ≡ new_listed_file number parts.now) }
+    ensures changes { Changes (Within (is_name_of (new_listed_file number parts.now))) (H.view host.old) (H.view host.new) }
     ensures causes { ListCauses (H.view host.old) (H.view host.new) result }
+    ensures kinds { map (λ b. kind (b.vtable, b.value)) kit.new.objects.items ≡ map (λ b. kind (b.vtable, b.value)) kit.old.objects.items }
 {
-    let writer = PairWriter::begin(alloc, host, number, partitioner)?;
-    match write_all(alloc, host, writer, memtable) {
+    let files = PairWriter::begin(alloc, host, number, partitioner, defs)?;
+    match write_all(host, kit, files, memtable, parts) {
         Ok(sealed) => Ok(sealed),
         Err(fault) => Err(host_fault(fault)),
     }
 }
 
-// The fault of the host that it is. Without index files nothing is read, so nothing is damaged and no analyzer is missing.
+// The fault of the host that it is. Nothing is read, so nothing is damaged, and no analyzer is missing.
 fn host_fault(fault: PairFault) -> HostFault
     requires undamaged { (damage : ADamage) → fault ≢ pair.Damaged damage }
     requires known { (class : Class) → fault ≢ pair.Missing class }
@@ -59,49 +71,59 @@ fn host_fault(fault: PairFault) -> HostFault
     }
 }
 
-// Writes the partitions of a memtable, and ends the file.
+// Writes the partitions of a memtable, and ends the files.
 fn write_all<H: Host>(
-    alloc: Global,
     host: &mut H,
-    mut writer: PairWriter,
+    kit: &mut Kit,
+    mut files: PairWriter,
     memtable: &Memtable,
+    parts: &PartNumbers,
 ) -> Result<Sealed, PairFault>
-    requires begun { IsWriting (H.view host.old) writer [] }
-    requires partitioner { memtable.now.partitioner ≡ writer.partitioner }
-    requires some { 1 ≤ length (map.entries memtable.now.partitions) }
+    requires begun { IsPairing (H.view host.old) files [] }
+    requires named { files.writer.file ≡ data_name files.writer.file.number }
+    requires partitioner { memtable.now.partitioner ≡ files.writer.partitioner }
+    requires some { 1 ≤ length (fin.entries memtable.now.partitions) }
     requires bodies { HaveBodies memtable.now.partitions }
-    requires room { Reaches (H.view host.old) writer.file writer.offset }
-    requires usable { IsTrue writer.usable }
-    ensures durable { OnOk result (IsFileDurable (H.view host.new) writer.file (data_bytes writer.partitioner (contents_of memtable.now.partitions))) }
-    ensures sealed { IfOk result (λ sealed. sealed ≡ new_listed_file writer.file.number) }
-    ensures changes { Changes (FileChange writer.file AnyChange) (H.view host.old) (H.view host.new) }
+    requires indexes { CanIndex (map (λ b. kind (b.vtable, b.value)) kit.old.objects.items) memtable.now.partitions (defs_of files.indexes) parts.now }
+    requires absent { AreAbsent (H.view host.old) files.writer.file.number parts.now }
+    requires room { Reaches (H.view host.old) files.writer.file files.writer.offset }
+    requires usable { IsTrue files.writer.usable }
+    ensures written { OnOk result (AreWritten (H.view host.new) files.writer.file.number files.writer.partitioner (defs_of files.indexes) parts.now (contents_of memtable.now.partitions)) }
+    ensures sealed { IfOk result (λ sealed. sealed ≡ new_listed_file files.writer.file.number parts.now) }
+    ensures changes { Changes (Within (is_name_of (new_listed_file files.writer.file.number parts.now))) (H.view host.old) (H.view host.new) }
     ensures causes { PushCauses (λ _. ⊥) (H.view host.old) (H.view host.new) result }
+    ensures kinds { map (λ b. kind (b.vtable, b.value)) kit.new.objects.items ≡ map (λ b. kind (b.vtable, b.value)) kit.old.objects.items }
 {
-    write_partitions(host, &mut writer, memtable)?;
-    writer.seal(host, &PartNumbers::new(alloc))
+    write_partitions(host, kit, &mut files, memtable)?;
+    files.seal(host, parts)
 }
 
 // Pushes the partitions of a memtable, in the order of their decorated keys.
 fn write_partitions<H: Host>(
     host: &mut H,
-    writer: &mut PairWriter,
+    kit: &mut Kit,
+    files: &mut PairWriter,
     memtable: &Memtable,
 ) -> Result<(), PairFault>
-    requires begun { IsWriting (H.view host.old) writer.old [] }
-    requires partitioner { memtable.now.partitioner ≡ writer.old.partitioner }
+    requires begun { IsPairing (H.view host.old) files.old [] }
+    requires partitioner { memtable.now.partitioner ≡ files.old.writer.partitioner }
     requires bodies { HaveBodies memtable.now.partitions }
-    requires room { Reaches (H.view host.old) writer.old.file writer.old.offset }
-    requires usable { IsTrue writer.old.usable }
-    ensures written { OnOk result (IsWriting (H.view host.new) writer.new (contents_of memtable.now.partitions)) }
-    ensures room { OnOk result (Reaches (H.view host.new) writer.new.file writer.new.offset) }
-    ensures usable { OnOk result (IsTrue writer.new.usable) }
-    ensures file { writer.new.file ≡ writer.old.file }
-    ensures partitioner { writer.new.partitioner ≡ writer.old.partitioner }
-    ensures changes { Changes (FileChange writer.old.file AnyChange) (H.view host.old) (H.view host.new) }
+    requires typed { AllByRecursion (λ def. AreValuesOf def.column def.kind memtable.now.partitions) (defs_of files.old.indexes) }
+    requires known { AllByRecursion (KnowsDef (map (λ b. kind (b.vtable, b.value)) kit.old.objects.items)) (defs_of files.old.indexes) }
+    requires room { Reaches (H.view host.old) files.old.writer.file files.old.writer.offset }
+    requires usable { IsTrue files.old.writer.usable }
+    ensures written { OnOk result (IsPairing (H.view host.new) files.new (contents_of memtable.now.partitions)) }
+    ensures room { OnOk result (Reaches (H.view host.new) files.new.writer.file files.new.writer.offset) }
+    ensures usable { OnOk result (IsTrue files.new.writer.usable) }
+    ensures file { files.new.writer.file ≡ files.old.writer.file }
+    ensures partitioner { files.new.writer.partitioner ≡ files.old.writer.partitioner }
+    ensures defs { defs_of files.new.indexes ≡ defs_of files.old.indexes }
+    ensures changes { Changes (FileChange files.old.writer.file AnyChange) (H.view host.old) (H.view host.new) }
     ensures causes { PushCauses (λ _. ⊥) (H.view host.old) (H.view host.new) result }
+    ensures kinds { map (λ b. kind (b.vtable, b.value)) kit.new.objects.items ≡ map (λ b. kind (b.vtable, b.value)) kit.old.objects.items }
 {
     for (key, partition) in memtable.iter() {
-        writer.push(host, &key.key, partition)?;
+        files.push(host, kit, &key.key, partition)?;
     }
     Ok(())
 }

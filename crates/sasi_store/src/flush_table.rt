@@ -1,5 +1,5 @@
 // The flush of a table of a store.
-ghost use Rattle.std.specs.Prelude.{◌≡◌, ◌∷◌, [], map, IfErr, IfOk, OnOk};
+ghost use Rattle.std.specs.Prelude.{◌≡◌, ◌∷◌, [], map, OnOk};
 ghost use Rattle.sasi_layout.specs.Classes.{KnowsClasses};
 ghost use Rattle.sasi_layout.specs.Moves.{Flush};
 ghost use Rattle.sasi_layout.specs.Serving.{CanChange};
@@ -10,19 +10,17 @@ ghost use Rattle.sasi_schema.specs.Numbers.{RisesFrom};
 ghost use Rattle.sasi_store.specs.Floors.{IsUnflushed, floor_in_memory, lowered};
 ghost use Rattle.sasi_store.specs.Held.{held_of};
 ghost use Rattle.sasi_store.specs.MakesMoves.{Knows, MakesMoves};
-ghost use Rattle.sasi_store.specs.Numbers.{AreNext, AreSpent};
 ghost use Rattle.sasi_store.specs.Puts.{HasTableFor};
 ghost use Rattle.sasi_store.specs.StoreView.{IsOfParts, held_in, memory_of};
 
 use crate::StepFault;
 use crate::flush::{FlushNumbers, flush};
+use crate::flush_draws::draw_numbers;
 use crate::parts::Parts;
 use crate::table_maps::{TableMaps, memtable_of, replace};
 use sasi_analyzers::Kit;
 use sasi_host::{Host, SegmentNumber};
-use sasi_layout::NumberKind;
 use sasi_memtable::Memtable;
-use sasi_recover::Numbers;
 use sasi_types::TableNumber;
 
 /// Flushes a table, unless its memtable is empty.
@@ -63,40 +61,31 @@ pub fn flush_table<H: Host>(
     ensures parts { OnOk result (IsOfParts parts.new) }
     ensures kinds { map (λ b. kind (b.vtable, b.value)) kit.new.objects.items ≡ map (λ b. kind (b.vtable, b.value)) kit.old.objects.items }
 {
-    let next = next_numbers(parts.numbers)?;
     let index = table as usize - 1;
+    let drawn = draw_numbers(parts, table)?;
     let numbers = FlushNumbers {
         table,
-        file: next.data,
-        floor: floor_without(&parts.tables, table, next.log),
-        last: next.log,
+        file: drawn.numbers.data,
+        floor: floor_without(&parts.tables, table, drawn.numbers.log),
+        last: drawn.numbers.log,
     };
     let memtable = memtable_of(&parts.tables, &parts.maps, table);
-    parts.log = flush(parts.alloc, host, &mut parts.manifest, memtable, numbers)?;
-    parts.numbers = next;
+    parts.log = flush(
+        parts.alloc,
+        host,
+        kit,
+        &mut parts.manifest,
+        memtable,
+        &drawn.defs,
+        numbers,
+        &drawn.parts,
+    )?;
+    parts.numbers = drawn.numbers;
     let listing = parts.manifest.listing();
     let empty = Memtable::new(parts.alloc, listing.partitioner);
     let defs = listing.tables.as_slice()[index].table.indexes.as_slice();
     replace(&mut parts.tables, &mut parts.maps, kit, index, empty, defs)?;
     Ok(())
-}
-
-// The last used numbers with the next data file and the next segment of the log, or the kind of which no number is left.
-fn next_numbers(numbers: Numbers) -> Result<Numbers, NumberKind>
-    ensures next { IfOk result (AreNext numbers) }
-    ensures spent { IfErr result (AreSpent numbers) }
-{
-    let Some(data) = numbers.data.checked_add(1) else {
-        return Err(NumberKind::Data);
-    };
-    let Some(log) = numbers.log.checked_add(1) else {
-        return Err(NumberKind::Log);
-    };
-    Ok(Numbers {
-        data,
-        log,
-        ..numbers
-    })
 }
 
 // The first segment that has a mutation of another table than this one, or the last segment where none has.

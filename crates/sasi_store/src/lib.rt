@@ -7,6 +7,7 @@ mod create;
 mod define;
 mod fault;
 mod flush;
+mod flush_draws;
 mod flush_file;
 mod flush_table;
 mod key_lookup;

@@ -3,7 +3,8 @@ use Rattle.std.proofs.lemmas.Result.{err_from_is_err_and}
 use Rattle.sasi_host.proofs.ChangeLaws.{stays}
 use Rattle.sasi_manifest.specs.declared.listing.Listing.{Listing}
 use Rattle.sasi_recover.specs.SealedFolder.{AreNamed, ReportsMissingListed}
-use Rattle.sasi_recover.proofs.Checking.{all_there, checked, data_there, deletes_as, ends_shown, ends_undamaged, gone_as, missing_shown, nothing_missing, same_any, same_moments, same_then_any, shapes_kept}
+use Rattle.sasi_recover.proofs.Checking.{all_there, checked, deletes_as, ends_shown, ends_undamaged, file_there, gone_as, missing_shown, nothing_missing, same_any, same_moments, same_then_any, shapes_kept}
+use Rattle.sasi_recover.proofs.NameLists.{of_tables}
 use Rattle.sasi_recover.proofs.SyncedFolder.{lists_same}
 use Rattle.sasi_recover.specs.KeptListed.{kept_under}
 use Rattle.sasi_recover.proofs.ListedFiles.{all_deleting, all_same}
@@ -27,10 +28,13 @@ returns-in_err-check_names-clause-undamaged g c folder l logs files number has =
 pub returns-in_err-check_names-clause-changes : goal.returns-in_err-check_names-clause-changes
 returns-in_err-check_names-clause-changes g c = same_any (g.H.Host.view c.args.host.now) (g.H.Host.view c.args.host.now) (stays (g.H.Host.view c.args.host.now))
 
-pub read_ends-requires : goal.read_ends-requires
-read_ends-requires g c =
+pub read_ends-requires-clause-there : goal.read_ends-requires-clause-there
+read_ends-requires-clause-there g c =
     let named = subst (λ (l : Listing). AreNamed c.args.names.now l.floor l.last c.args.files.now) c.listing-listing.ensures.listing c.in_ok-check_names.ensures.there in
     all_there (g.H.Host.view c.args.host.now) c.args.names.now c.args.manifest.now c.args.files.now c.requires.lists c.requires.read c.requires.files named
+
+pub read_ends-requires-clause-tables : goal.read_ends-requires-clause-tables
+read_ends-requires-clause-tables g c = of_tables c.args.manifest.now.listing c.args.files.now c.requires.files
 
 pub returns-in_err-time-clause-any_moment : goal.returns-in_err-time-clause-any_moment
 returns-in_err-time-clause-any_moment g c folder l logs files number has = same_moments (g.H.Host.view c.args.host.now) (g.H.Host.view c.read_ends.new.host) l logs c.read_ends.ensures.changes
@@ -40,7 +44,7 @@ returns-in_err-time-clause-damaged g c folder files =
     let p = err_from_is_err_and c.from_residual-in_err-time.result c.from_residual-in_err-time.ensures.1 in
     let named = subst (λ (l : Listing). AreNamed c.args.names.now l.floor l.last c.args.files.now) c.listing-listing.ensures.listing c.in_ok-check_names.ensures.there in
     rw (p.1, p.2) (ends_shown (g.H.Host.view c.args.host.now) c.args.names.now c.args.manifest.now c.args.files.now c.requires.lists c.requires.read c.requires.files folder files c.in_err-time.field-0.0
-    (data_there (g.H.Host.view c.args.host.now) c.args.names.now c.args.manifest.now c.args.files.now c.requires.lists c.requires.read c.requires.files named) c.in_err-time.ensures.damaged)
+    (file_there (g.H.Host.view c.args.host.now) c.args.names.now c.args.manifest.now c.args.files.now c.requires.lists c.requires.read c.requires.files named) c.in_err-time.ensures.damaged)
 
 pub returns-in_err-time-clause-undamaged : goal.returns-in_err-time-clause-undamaged
 returns-in_err-time-clause-undamaged g c folder l logs files number has =

@@ -1,11 +1,12 @@
-use Rattle.std.proofs.Common.{◌∙◌, ◌+◌, ap, length, List, ℕ, refl, subst, sym, arith}
+use Rattle.std.proofs.Common.{◌∙◌, ◌+◌, ◌*◌, ap, List, refl, subst, sym, arith}
 use Rattle.std.proofs.lemmas.Result.{err_from_is_err_and}
 use Rattle.sasi_host.proofs.ChangeLaws.{stays, then_same}
+use Rattle.sasi_host.specs.declared.name.FileName.{FileName}
 use Rattle.sasi_host.specs.Names.{log_name}
 use Rattle.sasi_host.specs.View.{Reaches}
 use Rattle.sasi_manifest.specs.declared.listing.Listing.{Listing}
 use Rattle.sasi_manifest.specs.Listings.{CanStart}
-use Rattle.sasi_recover.specs.OpeningReads.{ReadsLiveOnce, data_count}
+use Rattle.sasi_recover.specs.OpeningReads.{ReadsLiveOnce, data_count, ends_reads, index_count}
 use Rattle.sasi_recover.specs.declared.opened.Opened.{Opened}
 use Rattle.sasi_recover.specs.ReplayState.{IsReplayOf, seen}
 use Rattle.sasi_recover.specs.Replaying.{LiveSegmentsExist, NoFalseReplayDamage, ReadsAll, ReplayShowsDamage, Replays}
@@ -28,10 +29,10 @@ pub returns-in_err-files-clause-once : goal.returns-in_err-files-clause-once
 returns-in_err-files-clause-once g c folder files = omega arith
 
 pub check_and_delete-requires-clause-files : goal.check_and_delete-requires-clause-files
-check_and_delete-requires-clause-files g c = listed_files c.args.manifest c.listing.result.now c.in_ok-files.files.items c.deref.result.now c.listing.ensures.listing c.deref.ensures.value c.in_ok-files.ensures.sorted c.in_ok-files.ensures.listed
+check_and_delete-requires-clause-files g c = listed_files c.args.manifest c.listing.result.now c.in_ok-files.files.items c.deref.result.now c.listing.ensures.listing c.deref.ensures.value c.in_ok-files.ensures.listed
 
 pub returns-in_err-greatest-clause-once : goal.returns-in_err-greatest-clause-once
-returns-in_err-greatest-clause-once g c folder files = omega (arith, c.check_and_delete.ensures.reads, c.in_ok-files.ensures.count, ap (λ (l : List ℕ). length l) c.deref.ensures.value, ap (λ (l : Listing). data_count l.tables) c.listing.ensures.listing)
+returns-in_err-greatest-clause-once g c folder files = omega (arith, c.check_and_delete.ensures.reads, c.in_ok-files.ensures.reads, ap (λ (l : List FileName). ends_reads l) c.deref.ensures.value, ap (λ (l : Listing). 2 * data_count l.tables + 3 * index_count l.tables) c.listing.ensures.listing)
 
 pub replay-requires-clause-live : goal.replay-requires-clause-live
 replay-requires-clause-live g c = subst (λ (l : Listing). CanStart l.floor l.last) (sym c.listing-2.ensures.listing) c.requires.read.consistent.start
@@ -58,7 +59,7 @@ returns-in_err-replayed-clause-undamaged g c folder l logs files number has =
     let no_false = subst (λ (l : Listing). NoFalseReplayDamage (g.H.Host.view c.check_and_delete.new.host) l c.in_err-replayed.field-0.0) c.listing-2.ensures.listing c.in_err-replayed.ensures.undamaged in
     rw (p.1, p.2)
     (replay_undamaged (g.H.Host.view c.args.host.now) (g.H.Host.view c.check_and_delete.new.host) c.args.manifest c.deref.result.now c.in_ok-greatest.greatest c.args.names.now c.requires.lists (g.met.H.Host.sound c.args.host.now) c.requires.folder_durable c.requires.read
-    (listed_files c.args.manifest c.listing.result.now c.in_ok-files.files.items c.deref.result.now c.listing.ensures.listing c.deref.ensures.value c.in_ok-files.ensures.sorted c.in_ok-files.ensures.listed)
+    (listed_files c.args.manifest c.listing.result.now c.in_ok-files.files.items c.deref.result.now c.listing.ensures.listing c.deref.ensures.value c.in_ok-files.ensures.listed)
     c.in_ok-greatest.ensures.checked folder files l logs number has c.in_err-replayed.field-0.0 no_false)
 
 pub returns-in_err-replayed-clause-changes : goal.returns-in_err-replayed-clause-changes
@@ -67,7 +68,7 @@ returns-in_err-replayed-clause-changes g c = any_then_same (g.H.Host.view c.args
 pub returns-in_err-replayed-clause-once : goal.returns-in_err-replayed-clause-once
 returns-in_err-replayed-clause-once g c folder files =
     listing_read (g.H.Host.view c.args.host.now) (g.H.Host.view c.check_and_delete.new.host) (g.H.Host.view c.replay.new.host) folder c.args.manifest c.deref.result.now c.in_ok-greatest.greatest files c.in_ok-greatest.ensures.checked
-    (ap (λ (l : List ℕ). length l) c.deref.ensures.value ∙ c.in_ok-files.ensures.count ∙ ap (λ (l : Listing). data_count l.tables) c.listing.ensures.listing) c.check_and_delete.ensures.reads
+    (ap (λ (l : List FileName). ends_reads l) c.deref.ensures.value ∙ c.in_ok-files.ensures.reads ∙ ap (λ (l : Listing). 2 * data_count l.tables + 3 * index_count l.tables) c.listing.ensures.listing) c.check_and_delete.ensures.reads
     (subst (λ (l : Listing). ReadsLiveOnce (g.H.Host.view c.check_and_delete.new.host) (g.H.Host.view c.replay.new.host) l) c.listing-2.ensures.listing c.replay.ensures.once)
 
 pub returns-clause-any_moment : goal.returns-clause-any_moment
@@ -80,7 +81,7 @@ returns-clause-changes g c = any_then_same (g.H.Host.view c.args.host.now) (g.H.
 pub returns-clause-once : goal.returns-clause-once
 returns-clause-once g c folder files =
     listing_read (g.H.Host.view c.args.host.now) (g.H.Host.view c.check_and_delete.new.host) (g.H.Host.view c.replay.new.host) folder c.args.manifest c.deref.result.now c.in_ok-greatest.greatest files c.in_ok-greatest.ensures.checked
-    (ap (λ (l : List ℕ). length l) c.deref.ensures.value ∙ c.in_ok-files.ensures.count ∙ ap (λ (l : Listing). data_count l.tables) c.listing.ensures.listing) c.check_and_delete.ensures.reads
+    (ap (λ (l : List FileName). ends_reads l) c.deref.ensures.value ∙ c.in_ok-files.ensures.reads ∙ ap (λ (l : Listing). 2 * data_count l.tables + 3 * index_count l.tables) c.listing.ensures.listing) c.check_and_delete.ensures.reads
     (subst (λ (l : Listing). ReadsLiveOnce (g.H.Host.view c.check_and_delete.new.host) (g.H.Host.view c.replay.new.host) l) c.listing-2.ensures.listing c.replay.ensures.once)
 
 pub returns-clause-ready : goal.returns-clause-ready
@@ -90,7 +91,7 @@ returns-clause-ready g c =
     let e = g.H.Host.view c.replay.new.host in
     let r = c.in_ok-replayed.replayed in
     let listing_is = c.listing-2.ensures.listing in
-    let listed = listed_files c.args.manifest c.listing.result.now c.in_ok-files.files.items c.deref.result.now c.listing.ensures.listing c.deref.ensures.value c.in_ok-files.ensures.sorted c.in_ok-files.ensures.listed in
+    let listed = listed_files c.args.manifest c.listing.result.now c.in_ok-files.files.items c.deref.result.now c.listing.ensures.listing c.deref.ensures.value c.in_ok-files.ensures.listed in
     let opened : Opened = record { numbers = c.numbers_in-numbers.result; greatest = c.max.result; tables = r.replay.tables; log = r.log; manifest = c.args.manifest } in
     let file = c.in_ok-replayed.ensures.file ∙ ap (λ (l : Listing). log_name l.last) listing_is in
     let is_replay = subst (λ (l : Listing). IsReplayOf l (seen r.replay)) listing_is c.in_ok-replayed.ensures.tables in
@@ -106,7 +107,7 @@ returns-clause-tables g c =
 pub returns-clause-timed : goal.returns-clause-timed
 returns-clause-timed g c =
     let r = c.in_ok-replayed.replayed in
-    let listed = listed_files c.args.manifest c.listing.result.now c.in_ok-files.files.items c.deref.result.now c.listing.ensures.listing c.deref.ensures.value c.in_ok-files.ensures.sorted c.in_ok-files.ensures.listed in
+    let listed = listed_files c.args.manifest c.listing.result.now c.in_ok-files.files.items c.deref.result.now c.listing.ensures.listing c.deref.ensures.value c.in_ok-files.ensures.listed in
     let opened : Opened = record { numbers = c.numbers_in-numbers.result; greatest = c.max.result; tables = r.replay.tables; log = r.log; manifest = c.args.manifest } in
     let is_replay = subst (λ (l : Listing). IsReplayOf l (seen r.replay)) c.listing-2.ensures.listing c.in_ok-replayed.ensures.tables in
     opened_timed (g.H.Host.view c.args.host.now) c.args.manifest.listing c.deref.result.now c.in_ok-greatest.greatest (seen r.replay) listed c.in_ok-greatest.ensures.checked.tells is_replay opened refl c.max.ensures
@@ -118,7 +119,7 @@ returns-clause-serves g c folder l logs files number has =
     let e = g.H.Host.view c.replay.new.host in
     let r = c.in_ok-replayed.replayed in
     let listing_is = c.listing-2.ensures.listing in
-    let listed = listed_files c.args.manifest c.listing.result.now c.in_ok-files.files.items c.deref.result.now c.listing.ensures.listing c.deref.ensures.value c.in_ok-files.ensures.sorted c.in_ok-files.ensures.listed in
+    let listed = listed_files c.args.manifest c.listing.result.now c.in_ok-files.files.items c.deref.result.now c.listing.ensures.listing c.deref.ensures.value c.in_ok-files.ensures.listed in
     let opened : Opened = record { numbers = c.numbers_in-numbers.result; greatest = c.max.result; tables = r.replay.tables; log = r.log; manifest = c.args.manifest } in
     let file = c.in_ok-replayed.ensures.file ∙ ap (λ (l : Listing). log_name l.last) listing_is in
     let is_replay = subst (λ (l : Listing). IsReplayOf l (seen r.replay)) listing_is c.in_ok-replayed.ensures.tables in
@@ -133,7 +134,7 @@ returns-clause-opens g c folder files sealed =
     let e = g.H.Host.view c.replay.new.host in
     let r = c.in_ok-replayed.replayed in
     let listing_is = c.listing-2.ensures.listing in
-    let listed = listed_files c.args.manifest c.listing.result.now c.in_ok-files.files.items c.deref.result.now c.listing.ensures.listing c.deref.ensures.value c.in_ok-files.ensures.sorted c.in_ok-files.ensures.listed in
+    let listed = listed_files c.args.manifest c.listing.result.now c.in_ok-files.files.items c.deref.result.now c.listing.ensures.listing c.deref.ensures.value c.in_ok-files.ensures.listed in
     let all = subst (λ (l : Listing). ReadsAll b l (seen r.replay)) listing_is c.in_ok-replayed.ensures.reads in
     opened_opens a b c.args.manifest c.deref.result.now c.in_ok-greatest.greatest c.args.names.now c.requires.lists (g.met.H.Host.sound c.args.host.now) c.requires.folder_durable c.requires.read listed c.in_ok-greatest.ensures.checked
     e (seen r.replay) folder files sealed all

@@ -1,4 +1,4 @@
-use Rattle.std.proofs.Common.{◌≡◌, ℕ, ◌≤◌, List, [], ◌∷◌, ◌++◌, true, refl, sym, ◌∙◌, ap, subst, arith}
+use Rattle.std.proofs.Common.{◌≡◌, ℕ, ◌<◌, ◌≤◌, List, [], ◌∷◌, ◌++◌, true, refl, sym, ◌∙◌, ap, subst, arith}
 use Rattle.std.specs.Prelude.{max}
 use Rattle.sasi_types.specs.Token.{token_of}
 use Rattle.sasi_types.specs.declared.tree.Pair.{Pair}
@@ -41,3 +41,7 @@ returns-clause-ok g c content =
     (writing_push (g.H.Host.view c.args.host.now) (g.H.Host.view c.push_partition.new.host) old new c.args.key.now c.args.part.now refl refl
     (c.in_ok-push.ensures.ok ∙ ap (λ (t : ℕ). c.self.inside.pairs ++ pair_of t ∷ []) token_is) c.in_ok-next.ensures.next
     (c.max-self-inside.ensures ∙ ap (λ (t : ℕ). max c.self.inside.max_timestamp t) c.max_timestamp.ensures) c.in_ok-next.ensures.ok content)
+
+pub returns-clause-later : goal.returns-clause-later
+returns-clause-later g c =
+    subst (λ (w : Writer). w.offset < c.in_ok-next.next) c.self.view_is (omega (arith, c.in_ok-next.ensures.next, partition_length c.args.key.now c.args.part.now))

@@ -1,7 +1,6 @@
-use Rattle.std.proofs.Common.{List, map, subst, sym}
+use Rattle.std.proofs.Common.{List, subst, sym}
 use Rattle.sasi_schema.specs.IndexFacts.{IsIndexIn}
 use Rattle.sasi_manifest.specs.ListedDefinition.{ListedDefinition}
-use Rattle.sasi_manifest.specs.ListedTables.{listed}
 use Rattle.sasi_manifest.specs.Listings.{listed_definitions}
 use Rattle.sasi_manifest.proofs.Additions.{in_order_defined, listed_defined}
 use Rattle.sasi_manifest.proofs.listed.ListedTables.define.Goals as goal
