@@ -1,5 +1,5 @@
 -- The end of an index file.
-use Rattle.std.proofs.Common.{◌≡◌, ◌≢◌, ℕ, zero, suc, ◌+◌, ◌-◌, ◌≤◌, List, ◌∷◌, ◌++◌, length, take, refl, sym, ◌∙◌, ap, subst, arith, append_assoc, length-append}
+use Rattle.std.proofs.Common.{◌≡◌, ◌≢◌, ℕ, zero, suc, ◌+◌, ◌-◌, ◌≤◌, List, [], ◌∷◌, ◌++◌, length, take, refl, sym, ◌∙◌, ap, subst, arith, append_assoc, length-append}
 use Rattle.std.specs.Prelude.{replicate}
 use Rattle.std.proofs.lemmas.List.{length-replicate}
 use Rattle.sasi_types.specs.declared.column.ColumnType.{ColumnType}
@@ -24,7 +24,7 @@ use Rattle.sasi_indexwrite.specs.Files.{HoldsIndex}
 use Rattle.sasi_indexwrite.specs.Format.{blocks_at, entries, entries_from, footer_bytes, front, header_bytes, index_bytes, next_page, padding, spill_ref, trees_bytes}
 use Rattle.sasi_indexwrite.specs.Writing.{EndsFile, EndsWithBlocks, HasWritten, with_padding}
 use Rattle.sasi_indexwrite.specs.declared.term_writer.TermWriter.{TermWriter}
-use Rattle.sasi_indexwrite.proofs.Appends.{written_behind}
+use Rattle.sasi_indexwrite.proofs.Appends.{all_written, written_behind}
 
 pub header_length : (mode : Mode) (kind : ColumnType) → length (header_bytes mode kind) ≡ 16
 unfolding header_bytes
@@ -60,31 +60,34 @@ blocks_end a b c file first blocks spill bytes entries more long referred writte
     }
 
 -- the spill tree, the zeros, the blocks and the footer stand behind the trees of the terms
-pub file_ends : (a b c : View) (file : FileName) (writer : TermWriter) (blocks_at : ℕ) (tree : TreeRef) (header : Bytes) (terms : List TermPairs) (spill : List Pair) → writer.file ≡ file → HasWritten a writer header terms
-    → ((bytes : Bytes) → length bytes ≡ writer.offset → Holds a writer.file bytes → Holds b writer.file (with_padding bytes spill)) → blocks_at ≡ next_page (writer.offset + length (tree_bytes writer.offset spill))
-    → tree ≡ tree_ref writer.offset spill → AreFit spill
-    → ((bytes : Bytes) (entries : List TermEntry) → length bytes ≡ blocks_at → Holds b writer.file bytes → HasPushed writer.blocks entries → EndsWithBlocks c writer.file bytes entries tree)
+pub file_ends : (a b c : View) (file : FileName) (writer : TermWriter) (blocks_at : ℕ) (tree : TreeRef) (header : Bytes) (terms : List TermPairs) (spill : List Pair) → writer.trees.file ≡ file → writer.trees.unwritten.items ≡ [] → HasWritten a writer header terms
+    → ((bytes : Bytes) → length bytes ≡ writer.trees.end → Holds a writer.trees.file bytes → Holds b writer.trees.file (with_padding bytes spill)) → blocks_at ≡ next_page (writer.trees.end + length (tree_bytes writer.trees.end spill))
+    → tree ≡ tree_ref writer.trees.end spill → AreFit spill
+    → ((bytes : Bytes) (entries : List TermEntry) → length bytes ≡ blocks_at → Holds b writer.trees.file bytes → HasPushed writer.blocks entries → EndsWithBlocks c writer.trees.file bytes entries tree)
     → EndsFile c file header terms spill
-file_ends a b c file writer blocks_at tree header terms spill same was spilled at_is tree_is fit ended = record {
+file_ends a b c file writer blocks_at tree header terms spill same none was spilled at_is tree_is fit ended = record {
   begins = was.begins;
   each = was.each;
   spill_fit = fit;
   ends =
       subst (λ (f : FileName). EndsWithBlocks c f (with_padding begun spill) (entries_from 16 terms) (tree_ref (16 + length (trees_bytes 16 terms)) spill)) same
-      (subst (λ (t : TreeRef). EndsWithBlocks c writer.file (with_padding begun spill) (entries_from 16 terms) t) (tree_is ∙ ap (λ (n : ℕ). tree_ref n spill) was.offset_is)
-      (ended (with_padding begun spill) (entries_from 16 terms) long (spilled begun begun_long was.holds) was.pushed));
+      (subst (λ (t : TreeRef). EndsWithBlocks c writer.trees.file (with_padding begun spill) (entries_from 16 terms) t) (tree_is ∙ ap (λ (n : ℕ). tree_ref n spill) end_is)
+      (ended (with_padding begun spill) (entries_from 16 terms) long (spilled begun begun_long (all_written a writer.trees begun none was.appended)) was.pushed));
 }
   where
     begun : Bytes
     begun = header ++ trees_bytes 16 terms
 
-    begun_long : length begun ≡ writer.offset
-    begun_long = omega (arith, length-append header (trees_bytes 16 terms), was.begins, was.offset_is)
+    end_is : writer.trees.end ≡ 16 + length (trees_bytes 16 terms)
+    end_is = omega (arith, was.next_is, ap length none)
+
+    begun_long : length begun ≡ writer.trees.end
+    begun_long = omega (arith, length-append header (trees_bytes 16 terms), was.begins, end_is)
 
     before : ℕ
     before = length (begun ++ tree_bytes (length begun) spill)
 
-    before_is : before ≡ writer.offset + length (tree_bytes writer.offset spill)
+    before_is : before ≡ writer.trees.end + length (tree_bytes writer.trees.end spill)
     before_is = length-append begun (tree_bytes (length begun) spill) ∙ ap (λ (n : ℕ). n + length (tree_bytes n spill)) begun_long
 
     long : length (with_padding begun spill) ≡ blocks_at

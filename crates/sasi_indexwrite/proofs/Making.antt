@@ -1,5 +1,5 @@
 -- An index file from its header to its footer.
-use Rattle.std.proofs.Common.{◌≡◌, ◌≢◌, List, [], ◌++◌, sym, subst, arith, append-nil}
+use Rattle.std.proofs.Common.{◌≡◌, ◌≢◌, List, [], ◌++◌, length, ap, sym, ◌∙◌, subst, arith}
 use Rattle.sasi_types.specs.declared.column.ColumnType.{ColumnType}
 use Rattle.sasi_types.specs.declared.column.ColumnType.TheVariants.{Uuid}
 use Rattle.sasi_types.specs.declared.mode.Mode.{Mode}
@@ -21,16 +21,21 @@ use Rattle.sasi_indexwrite.proofs.Grouping.{gathered_is}
 
 -- ---- the header alone
 
-pub begin_room : (v : View) (writer : TermWriter) (file : FileName) (mode : Mode) (kind : ColumnType) → writer.file ≡ file → writer.offset ≡ 16 → Holds v file (header_bytes mode kind) → Reaches v writer.file writer.offset
+pub begin_room : (v : View) (writer : TermWriter) (file : FileName) (mode : Mode) (kind : ColumnType) → writer.trees.file ≡ file → writer.trees.end ≡ 16 → Holds v file (header_bytes mode kind) → Reaches v writer.trees.file writer.trees.end
 begin_room v writer file mode kind same at holds =
-    subst (λ (f : FileName). Reaches v f writer.offset) (sym same) (reaches_held v file writer.offset (header_bytes mode kind) (omega (arith, at, header_length mode kind)) holds)
+    subst (λ (f : FileName). Reaches v f writer.trees.end) (sym same) (reaches_held v file writer.trees.end (header_bytes mode kind) (omega (arith, at, header_length mode kind)) holds)
 
-pub begin_written : (v : View) (writer : TermWriter) (file : FileName) (mode : Mode) (kind : ColumnType) → writer.file ≡ file → writer.offset ≡ 16 → HasPushed writer.blocks [] → Holds v file (header_bytes mode kind)
-    → HasWritten v writer (header_bytes mode kind) []
-begin_written v writer file mode kind same at pushed holds = record {
+pub begin_written : (v : View) (writer : TermWriter) (file : FileName) (mode : Mode) (kind : ColumnType) → writer.trees.file ≡ file → writer.trees.end ≡ 16 → writer.trees.unwritten.items ≡ [] → HasPushed writer.blocks []
+    → Holds v file (header_bytes mode kind) → HasWritten v writer (header_bytes mode kind) []
+begin_written v writer file mode kind same at none pushed holds = record {
   begins = header_length mode kind;
-  holds = subst (λ (f : FileName). Holds v f (header_bytes mode kind ++ [])) (sym same) (subst (λ (l : Bytes). Holds v file l) (sym (append-nil (header_bytes mode kind))) holds);
-  offset_is = at;
+  appended = record {
+    written = header_bytes mode kind;
+    ends = header_length mode kind ∙ sym at;
+    holds = subst (λ (f : FileName). Holds v f (header_bytes mode kind)) (sym same) holds;
+    whole = ap (λ (l : Bytes). header_bytes mode kind ++ l) none;
+  };
+  next_is = omega (arith, at, ap length none);
   pushed = pushed;
   each = tt;
 }
@@ -38,13 +43,13 @@ begin_written v writer file mode kind same at pushed holds = record {
 -- ---- the whole
 
 -- what was gathered of all postings is in the file
-pub index_made : (v : View) (file : FileName) (mode : Mode) (kind : ColumnType) (postings : List Posting) (writer : TermWriter) (spill : List Pair) → mode ≢ Sparse → kind ≢ Uuid → AreSortedPostings postings → writer.file ≡ file
-    → KeepsGathered writer spill (gathered postings) → EndsFile v writer.file (header_bytes mode kind) ((gathered postings).closed ++ with_pairs writer.term writer.pairs) spill → HoldsIndex v file mode kind postings
+pub index_made : (v : View) (file : FileName) (mode : Mode) (kind : ColumnType) (postings : List Posting) (writer : TermWriter) (spill : List Pair) → mode ≢ Sparse → kind ≢ Uuid → AreSortedPostings postings → writer.trees.file ≡ file
+    → KeepsGathered writer spill (gathered postings) → EndsFile v writer.trees.file (header_bytes mode kind) ((gathered postings).closed ++ with_pairs writer.term writer.pairs) spill → HoldsIndex v file mode kind postings
 index_made v file mode kind postings writer spill built has_terms valid same keeps ends =
     let all = gathered postings in
     let is = gathered_is postings valid in
-    let one = subst (λ (t : Bytes). EndsFile v writer.file (header_bytes mode kind) (all.closed ++ with_pairs t writer.pairs) spill) keeps.term ends in
-    let two = subst (λ (l : List Pair). EndsFile v writer.file (header_bytes mode kind) (all.closed ++ with_pairs all.term l) spill) keeps.pairs one in
-    let three = subst (λ (l : List Pair). EndsFile v writer.file (header_bytes mode kind) (all_terms all) l) keeps.spill_is two in
+    let one = subst (λ (t : Bytes). EndsFile v writer.trees.file (header_bytes mode kind) (all.closed ++ with_pairs t writer.pairs) spill) keeps.term ends in
+    let two = subst (λ (l : List Pair). EndsFile v writer.trees.file (header_bytes mode kind) (all.closed ++ with_pairs all.term l) spill) keeps.pairs one in
+    let three = subst (λ (l : List Pair). EndsFile v writer.trees.file (header_bytes mode kind) (all_terms all) l) keeps.spill_is two in
     let four = subst (λ (f : FileName). EndsFile v f (header_bytes mode kind) (all_terms all) all.spill) same three in
     index_ends mode kind (all_terms all) all.spill v file postings built has_terms is.postings_are is.rising is.spill four

@@ -20,13 +20,13 @@ pub record HasTaken (old new : View) (all left : List Posting) (was now : TermWr
   pub keeps : KeepsGathered now spill (gathered done)
   pub ok : (header : Bytes) → HasWritten old was header [] → HasWritten new now header (gathered done).closed
   pub ready : CanStoreTerm now
-  pub room : Reaches new now.file now.offset
-  pub file : now.file ≡ was.file
-  pub changes : Changes (FileChange was.file AnyChange) old new
+  pub room : Reaches new now.trees.file now.trees.end
+  pub file : now.trees.file ≡ was.trees.file
+  pub changes : Changes (FileChange was.trees.file AnyChange) old new
   pub counts : KeepsCounts old new
 
 -- none yet
-pub none_taken : (v : View) (all : List Posting) (writer : TermWriter) (spill : List Pair) → KeepsGathered writer spill (gathered []) → CanStoreTerm writer → Reaches v writer.file writer.offset → HasTaken v v all all writer writer spill
+pub none_taken : (v : View) (all : List Posting) (writer : TermWriter) (spill : List Pair) → KeepsGathered writer spill (gathered []) → CanStoreTerm writer → Reaches v writer.trees.file writer.trees.end → HasTaken v v all all writer writer spill
 none_taken v all writer spill keeps ready room = record {
   done = [];
   all_is = refl;
@@ -35,7 +35,7 @@ none_taken v all writer spill keeps ready room = record {
   ready = ready;
   room = room;
   file = refl;
-  changes = untouched v writer.file;
+  changes = untouched v writer.trees.file;
   counts = record { disk = refl; out = refl; reads = refl };
 }
 
@@ -49,7 +49,7 @@ follows_taken old new all left posting was now spill valid taken =
 pub one_more : (old mid new : View) (all left : List Posting) (posting : Posting) (was before now : TermWriter) (spill more : List Pair) → HasTaken old mid all (posting ∷ left) was before spill
     → ((so_far : TermsSoFar) → KeepsGathered before spill so_far → KeepsGathered now more (add so_far posting))
     → ((header : Bytes) (so_far : TermsSoFar) → KeepsGathered before spill so_far → HasWritten mid before header so_far.closed → HasWritten new now header (add so_far posting).closed)
-    → CanStoreTerm now → Reaches new now.file now.offset → now.file ≡ before.file → Changes (FileChange before.file AnyChange) mid new → KeepsCounts mid new → HasTaken old new all left was now more
+    → CanStoreTerm now → Reaches new now.trees.file now.trees.end → now.trees.file ≡ before.trees.file → Changes (FileChange before.trees.file AnyChange) mid new → KeepsCounts mid new → HasTaken old new all left was now more
 one_more old mid new all left posting was before now spill more taken keeps ok ready room file changes counts = record {
   done = taken.done ++ posting ∷ [];
   all_is = taken.all_is ∙ sym (append_assoc taken.done (posting ∷ []) left);
@@ -58,7 +58,7 @@ one_more old mid new all left posting was before now spill more taken keeps ok r
   ready = ready;
   room = room;
   file = file ∙ taken.file;
-  changes = touches_on old mid new was.file taken.changes (subst (λ f. Changes (FileChange f AnyChange) mid new) taken.file changes);
+  changes = touches_on old mid new was.trees.file taken.changes (subst (λ f. Changes (FileChange f AnyChange) mid new) taken.file changes);
   counts = record {
     disk = counts.disk ∙ taken.counts.disk;
     out = counts.out ∙ taken.counts.out;

@@ -3,18 +3,17 @@ use Rattle.std.proofs.Common.{◌≡◌, ℕ, ◌+◌, ◌≤◌, ◌^◌, List,
 use Rattle.sasi_types.specs.declared.tree.Pair.{Pair}
 use Rattle.sasi_types.specs.declared.tree.TreeRef.{TreeRef}
 use Rattle.sasi_host.specs.Names.{Bytes}
-use Rattle.sasi_host.specs.View.{View, Holds}
+use Rattle.sasi_host.specs.View.{View}
 use Rattle.sasi_tokentree.specs.Format.{tree_bytes, tree_ref}
 use Rattle.sasi_tokentree.proofs.HeightLaws.{levels_least, tree_length}
-use Rattle.sasi_tokentree.specs.Writes.{Writes}
 use Rattle.sasi_termblocks.specs.declared.term_entry.TermEntry.{TermEntry}
 use Rattle.sasi_termblocks.specs.Writing.{HasPushed}
 use Rattle.sasi_indexwrite.specs.declared.term_writer.TermWriter.{TermWriter}
+use Rattle.sasi_indexwrite.specs.Appending.{IsAppending, next_tree}
 use Rattle.sasi_indexwrite.specs.Content.{IsTerm, TermPairs}
 use Rattle.sasi_indexwrite.specs.Format.{entries_from, trees_bytes}
 use Rattle.sasi_indexwrite.specs.TermsSoFar.{with_pairs}
 use Rattle.sasi_indexwrite.specs.Writing.{HasWritten}
-use Rattle.sasi_indexwrite.proofs.Appends.{written_behind}
 use Rattle.sasi_indexwrite.proofs.Lists.{all_join}
 
 -- its tree stands behind the others
@@ -44,38 +43,33 @@ pub with_some : (term : Bytes) (pairs : List Pair) → 1 ≤ length pairs → wi
 with_some term [] some = absurd (omega arith)
 with_some term (pair ∷ pairs) some = refl
 
--- the tree was written, and the entry added
-pub term_written : (a b : View) (old new : TermWriter) (term : Bytes) (tree : TreeRef) (size : ℕ) (header : Bytes) (closed : List TermPairs) → new.file ≡ old.file → new.offset ≡ old.offset + size
-    → size ≡ length (tree_bytes old.offset old.pairs) → tree ≡ tree_ref old.offset old.pairs → Writes a b old.file old.offset (tree_bytes old.offset old.pairs) → IsTerm (term, old.pairs)
+-- the tree was appended, and the entry added
+pub term_written : (a b : View) (old new : TermWriter) (term : Bytes) (tree : TreeRef) (header : Bytes) (closed : List TermPairs)
+    → ((bytes : Bytes) → IsAppending a old.trees bytes → IsAppending b new.trees (bytes ++ tree_bytes (next_tree old.trees) old.pairs)) → next_tree new.trees ≡ next_tree old.trees + length (tree_bytes (next_tree old.trees) old.pairs)
+    → tree ≡ tree_ref (next_tree old.trees) old.pairs → IsTerm (term, old.pairs)
     → ((entries : List TermEntry) → HasPushed old.blocks entries → HasPushed new.blocks (entries ++ record { term = term; list = Some tree; inline = None } ∷ []))
     → HasWritten a old header closed → HasWritten b new header (closed ++ with_pairs term old.pairs)
-term_written a b old new term tree size header closed file offset size_is tree_is written one pushed was =
+term_written a b old new term tree header closed appended next tree_is one pushed was =
     subst (λ (l : List TermPairs). HasWritten b new header (closed ++ l)) (sym (with_some term old.pairs one.some)) (record {
       begins = was.begins;
-      holds =
-          subst (λ f. Holds b f (header ++ trees_bytes 16 (closed ++ (term, old.pairs) ∷ []))) (sym file)
-          (subst (λ (l : Bytes). Holds b old.file l) whole (written_behind a b old.file old.offset (header ++ trees_bytes 16 closed) (tree_bytes old.offset old.pairs) written ends was.holds));
-      offset_is = omega (arith, offset, size_is, was.offset_is, ap length trees, length-append (trees_bytes 16 closed) (tree_bytes old.offset old.pairs));
-      pushed =
-          subst (λ (l : List TermEntry). HasPushed new.blocks l) entries (pushed (entries_from 16 closed) was.pushed);
+      appended = subst (λ (l : Bytes). IsAppending b new.trees l) whole (appended (header ++ trees_bytes 16 closed) was.appended);
+      next_is = omega (arith, next, was.next_is, ap length trees, length-append (trees_bytes 16 closed) (tree_bytes at old.pairs));
+      pushed = subst (λ (l : List TermEntry). HasPushed new.blocks l) entries (pushed (entries_from 16 closed) was.pushed);
       each = all_join IsTerm closed ((term, old.pairs) ∷ []) was.each (one, tt);
     })
   where
-    at_end : 16 + length (trees_bytes 16 closed) ≡ old.offset
-    at_end = sym was.offset_is
+    at : ℕ
+    at = next_tree old.trees
 
-    trees : trees_bytes 16 (closed ++ (term, old.pairs) ∷ []) ≡ trees_bytes 16 closed ++ tree_bytes old.offset old.pairs
-    trees = trees_push 16 closed (term, old.pairs) ∙ ap (λ (n : ℕ). trees_bytes 16 closed ++ tree_bytes n old.pairs) at_end
+    trees : trees_bytes 16 (closed ++ (term, old.pairs) ∷ []) ≡ trees_bytes 16 closed ++ tree_bytes at old.pairs
+    trees = trees_push 16 closed (term, old.pairs) ∙ ap (λ (n : ℕ). trees_bytes 16 closed ++ tree_bytes n old.pairs) (sym was.next_is)
 
-    ends : length (header ++ trees_bytes 16 closed) ≡ old.offset
-    ends = omega (arith, length-append header (trees_bytes 16 closed), was.begins, at_end)
-
-    whole : (header ++ trees_bytes 16 closed) ++ tree_bytes old.offset old.pairs ≡ header ++ trees_bytes 16 (closed ++ (term, old.pairs) ∷ [])
-    whole = append_assoc header (trees_bytes 16 closed) (tree_bytes old.offset old.pairs) ∙ ap (λ (l : Bytes). header ++ l) (sym trees)
+    whole : (header ++ trees_bytes 16 closed) ++ tree_bytes at old.pairs ≡ header ++ trees_bytes 16 (closed ++ (term, old.pairs) ∷ [])
+    whole = append_assoc header (trees_bytes 16 closed) (tree_bytes at old.pairs) ∙ ap (λ (l : Bytes). header ++ l) (sym trees)
 
     entries : entries_from 16 closed ++ record { term = term; list = Some tree; inline = None } ∷ [] ≡ entries_from 16 (closed ++ (term, old.pairs) ∷ [])
     entries =
-        ap (λ (t : TreeRef). entries_from 16 closed ++ record { term = term; list = Some t; inline = None } ∷ []) (tree_is ∙ ap (λ (n : ℕ). tree_ref n old.pairs) (sym at_end))
+        ap (λ (t : TreeRef). entries_from 16 closed ++ record { term = term; list = Some t; inline = None } ∷ []) (tree_is ∙ ap (λ (n : ℕ). tree_ref n old.pairs) was.next_is)
         ∙ sym (entries_push 16 closed (term, old.pairs))
 
 -- a tree that ends within a file has so few pairs

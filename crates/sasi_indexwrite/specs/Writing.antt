@@ -1,5 +1,5 @@
 -- Index files as they are written.
-use Rattle.std.specs.Prelude.{◌≡◌, ◌+◌, ◌^◌, ◌≤◌, List, ◌++◌, length}
+use Rattle.std.specs.Prelude.{◌≡◌, ◌+◌, ◌≤◌, List, ◌++◌, length}
 use Rattle.std.specs.List.{AllByRecursion}
 use Rattle.sasi_types.specs.declared.tree.Pair.{Pair}
 use Rattle.sasi_types.specs.declared.tree.TreeRef.{TreeRef}
@@ -12,21 +12,22 @@ use Rattle.sasi_termblocks.specs.declared.term_entry.TermEntry.{TermEntry}
 use Rattle.sasi_termblocks.specs.Blocks.{IsRefOf, items_of, levels_bytes}
 use Rattle.sasi_termblocks.specs.Writing.{HasPushed}
 use Rattle.sasi_indexwrite.specs.declared.term_writer.TermWriter.{TermWriter}
+use Rattle.sasi_indexwrite.specs.Appending.{CanAppend, IsAppending, next_tree}
 use Rattle.sasi_indexwrite.specs.Content.{IsTerm, TermPairs}
 use Rattle.sasi_indexwrite.specs.Format.{entries_from, footer_bytes, padding, trees_bytes}
 use Rattle.sasi_indexwrite.specs.TermsSoFar.{TermsSoFar}
 
--- the term can be stored, its pairs rise, and no file is longer than 2^62 bytes
+-- the term can be stored, its pairs rise, and a further tree can be appended
 pub record CanStoreTerm (writer : TermWriter) : Type 0 where
   pub short : length writer.term ≤ 1024
   pub rising : IsRising writer.pairs
-  pub fits : writer.offset ≤ 2 ^ 62
+  pub trees : CanAppend writer.trees
 
--- a writer has written the trees of these terms behind a header, and keeps their entries
+-- a writer has appended the trees of these terms to a header, and keeps their entries
 pub record HasWritten (v : View) (writer : TermWriter) (header : Bytes) (closed : List TermPairs) : Type 0 where
   pub begins : length header ≡ 16
-  pub holds : Holds v writer.file (header ++ trees_bytes 16 closed)
-  pub offset_is : writer.offset ≡ 16 + length (trees_bytes 16 closed)
+  pub appended : IsAppending v writer.trees (header ++ trees_bytes 16 closed)
+  pub next_is : next_tree writer.trees ≡ 16 + length (trees_bytes 16 closed)
   pub pushed : HasPushed writer.blocks (entries_from 16 closed)
   pub each : AllByRecursion IsTerm closed
 

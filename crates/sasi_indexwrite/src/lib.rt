@@ -7,6 +7,7 @@ mod header;
 mod postings;
 mod term_writer;
 mod trailer;
+mod tree_writer;
 mod write;
 
 pub use footer::Footer;

@@ -23,13 +23,13 @@ fn add_posting<H: Host>(
 ) -> Result<(), HostFault>
     requires follows { CanFollow writer.old.term writer.old.pairs posting }
     requires ready { CanStoreTerm writer.old }
-    requires room { Reaches (H.view host.old) writer.old.file writer.old.offset }
+    requires room { Reaches (H.view host.old) writer.old.trees.file writer.old.trees.end }
     ensures keeps { OnOk result ((all : TermsSoFar) → KeepsGathered writer.old spill.old all → KeepsGathered writer.new spill.new (add all posting)) }
     ensures ok { OnOk result ((header : Bytes) (all : TermsSoFar) → KeepsGathered writer.old spill.old all → HasWritten (H.view host.old) writer.old header all.closed → HasWritten (H.view host.new) writer.new header (add all posting).closed) }
     ensures ready { OnOk result (CanStoreTerm writer.new) }
-    ensures room { OnOk result (Reaches (H.view host.new) writer.new.file writer.new.offset) }
-    ensures file { writer.new.file ≡ writer.old.file }
-    ensures changes { Changes (FileChange writer.old.file AnyChange) (H.view host.old) (H.view host.new) }
+    ensures room { OnOk result (Reaches (H.view host.new) writer.new.trees.file writer.new.trees.end) }
+    ensures file { writer.new.trees.file ≡ writer.old.trees.file }
+    ensures changes { Changes (FileChange writer.old.trees.file AnyChange) (H.view host.old) (H.view host.new) }
     ensures causes { ListCauses (H.view host.old) (H.view host.new) result }
 {
     match posting.list {
@@ -50,13 +50,13 @@ pub fn add_postings<H: Host>(
     requires gathered { AreSortedPostings gather.old.postings }
     requires none { KeepsGathered writer.old spill.old (gathered []) }
     requires ready { CanStoreTerm writer.old }
-    requires room { Reaches (H.view host.old) writer.old.file writer.old.offset }
+    requires room { Reaches (H.view host.old) writer.old.trees.file writer.old.trees.end }
     ensures keeps { OnOk result (KeepsGathered writer.new spill.new (gathered gather.old.postings)) }
     ensures ok { OnOk result ((header : Bytes) → HasWritten (H.view host.old) writer.old header [] → HasWritten (H.view host.new) writer.new header (gathered gather.old.postings).closed) }
     ensures ready { OnOk result (CanStoreTerm writer.new) }
-    ensures room { OnOk result (Reaches (H.view host.new) writer.new.file writer.new.offset) }
-    ensures file { writer.new.file ≡ writer.old.file }
-    ensures changes { Changes (FileChange writer.old.file AnyChange) (H.view host.old) (H.view host.new) }
+    ensures room { OnOk result (Reaches (H.view host.new) writer.new.trees.file writer.new.trees.end) }
+    ensures file { writer.new.trees.file ≡ writer.old.trees.file }
+    ensures changes { Changes (FileChange writer.old.trees.file AnyChange) (H.view host.old) (H.view host.new) }
     ensures causes { WriteCauses (H.view host.old) (H.view host.new) result }
 {
     while let Some(posting) = gather.next(host)? {

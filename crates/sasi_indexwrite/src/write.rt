@@ -51,21 +51,21 @@ fn end_file<H: Host>(
 ) -> Result<(), HostFault>
     requires ready { CanStoreTerm writer }
     requires rising { IsRising spill.now }
-    requires room { Reaches (H.view host.old) writer.file writer.offset }
-    ensures ok { OnOk result ((header : Bytes) (closed : List TermPairs) → HasWritten (H.view host.old) writer header closed → EndsFile (H.view host.new) writer.file header (closed ++ with_pairs writer.term writer.pairs) spill.now) }
-    ensures synced { OnOk result (IsSynced (H.view host.new) writer.file) }
-    ensures changes { Changes (FileChange writer.file AnyChange) (H.view host.old) (H.view host.new) }
+    requires room { Reaches (H.view host.old) writer.trees.file writer.trees.end }
+    ensures ok { OnOk result ((header : Bytes) (closed : List TermPairs) → HasWritten (H.view host.old) writer header closed → EndsFile (H.view host.new) writer.trees.file header (closed ++ with_pairs writer.term writer.pairs) spill.now) }
+    ensures synced { OnOk result (IsSynced (H.view host.new) writer.trees.file) }
+    ensures changes { Changes (FileChange writer.trees.file AnyChange) (H.view host.old) (H.view host.new) }
     ensures causes { ListCauses (H.view host.old) (H.view host.new) result }
 {
     let mut writer = writer;
     end_terms(alloc, host, &mut writer)?;
-    let spilled = write_spill(alloc, host, writer.file, writer.offset, spill)?;
-    write_blocks(alloc, host, writer.file, writer.blocks, spilled)?;
+    let spilled = write_spill(alloc, host, writer.trees.file, writer.trees.end, spill)?;
+    write_blocks(alloc, host, writer.trees.file, writer.blocks, spilled)?;
     Ok(())
 }
 
 /// Writes the file of an index from the postings that were gathered for it, and syncs it. Its name becomes durable when the
-/// folder is synced. The pairs of one term are in memory at a time, and the terms with the offsets of their trees.
+/// folder is synced. The pairs of one term are in memory at a time, some trees, and the terms with the offsets of their trees.
 ///
 /// An index of the mode `Sparse` isn't built yet. A gathering has each posting once, and one of the spill has no term.
 pub fn write_index<H: Host>(

@@ -11,10 +11,9 @@ use Rattle.sasi_manifest.specs.declared.files.ListedFile.{ListedFile}
 use Rattle.sasi_manifest.specs.declared.files.PartNumber.{PartNumber}
 use Rattle.sasi_manifest.specs.FileNames.{has_name}
 use Rattle.sasi_manifest.specs.ListedDefinition.{ListedDefinition}
-use Rattle.sasi_manifest.specs.ListedFiles.{has_file, index_name, names_of, with_file, with_files, without}
+use Rattle.sasi_manifest.specs.ListedFiles.{has_file, index_name, is_name_of, names_of, with_file, with_files, without}
 use Rattle.sasi_manifest.specs.Listings.{at_number, replaced}
 use Rattle.sasi_manifest.proofs.Replacing.{unchanged}
-use Rattle.sasi_layout.specs.Flushed.{is_name_of}
 use Rattle.sasi_layout.specs.NumbersInOrder.{HasFilesInOrder, Rising}
 use Rattle.sasi_layout.proofs.ListingLaws.{rising_bound}
 

@@ -8,7 +8,8 @@ use Rattle.sasi_host.specs.declared.name.FileName.{FileName}
 use Rattle.sasi_host.specs.Names.{Folder, log_name, manifest_name, name_eq, seal_name}
 use Rattle.sasi_manifest.specs.declared.files.ListedFile.{ListedFile}
 use Rattle.sasi_manifest.specs.FileNames.{has_name}
-use Rattle.sasi_layout.specs.Flushed.{flush_drops, flush_makes, is_name_of}
+use Rattle.sasi_layout.specs.Flushed.{flush_drops, flush_makes}
+use Rattle.sasi_manifest.specs.ListedFiles.{is_name_of}
 use Rattle.sasi_layout.specs.Kept.{HasKept, Kept, has_segment, is_kept}
 use Rattle.sasi_layout.proofs.KeptLaws.{dead_segment, keeps_segment, name_itself, name_same}
 

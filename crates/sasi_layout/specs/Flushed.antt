@@ -12,7 +12,7 @@ use Rattle.sasi_host.specs.Names.{Bytes, Folder, log_name, name_eq}
 use Rattle.sasi_model.specs.Abbreviations.{Partitions}
 use Rattle.sasi_datawrite.specs.Format.{Content, data_bytes}
 use Rattle.sasi_manifest.specs.declared.files.ListedFile.{ListedFile}
-use Rattle.sasi_manifest.specs.ListedFiles.{names_of}
+use Rattle.sasi_manifest.specs.ListedFiles.{is_name_of}
 use Rattle.sasi_manifest.specs.OpenManifest.{IsEither}
 use Rattle.sasi_manifest.proofs.Replacing.{At}
 use Rattle.sasi_layout.specs.Layout.{Layout, TableParts, listing_of, unflushed}
@@ -48,10 +48,6 @@ abbrev pub ListsEither : Layout → Layout → Bytes → Type 0
 ListsEither former next = IsEither former.used.manifest (listing_of former) (listing_of next)
 
 -- ---- names
-
--- it is the name of this file, or of an index file that goes with it
-abbrev pub is_name_of : ListedFile → FileName → Bool
-is_name_of f name = list_any (name_eq name) (names_of f)
 
 -- the names that a flush makes: the new segment, and those of its file
 abbrev pub flush_makes : ListedFile → ℕ → FileName → Bool

@@ -4,7 +4,7 @@ use Rattle.std.specs.List.{AllByRecursion, filter, list_any}
 use Rattle.std.specs.Coded.{Coded, code_by, coded×, coded_ℕ, coded_list}
 use Rattle.sasi_host.specs.declared.name.FileName.{FileName}
 use Rattle.sasi_host.specs.declared.name.Kind.TheVariants.{Index}
-use Rattle.sasi_host.specs.Names.{data_name}
+use Rattle.sasi_host.specs.Names.{data_name, name_eq}
 use Rattle.sasi_manifest.specs.declared.files.ListedFile.{ListedFile}
 use Rattle.sasi_manifest.specs.declared.files.PartNumber.{PartNumber}
 
@@ -44,6 +44,10 @@ index_name number p = record { kind = Index; number = number; index = p.index; p
 -- the data file, and the index files that go with it
 abbrev pub names_of : ListedFile → List FileName
 names_of f = data_name f.number ∷ map (index_name f.number) f.parts
+
+-- a name is one of them
+abbrev pub is_name_of : ListedFile → FileName → Bool
+is_name_of f name = list_any (name_eq name) (names_of f)
 
 -- ---- parts of indexes
 

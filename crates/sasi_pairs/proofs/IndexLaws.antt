@@ -17,9 +17,9 @@ use Rattle.sasi_indexwrite.specs.Files.{HoldsIndex}
 use Rattle.sasi_indexwrite.specs.TermsSoFar.{AreSortedPostings}
 use Rattle.sasi_manifest.specs.declared.files.ListedFile.{ListedFile}
 use Rattle.sasi_manifest.specs.declared.files.PartNumber.{PartNumber}
-use Rattle.sasi_manifest.specs.ListedFiles.{index_name}
+use Rattle.sasi_manifest.specs.ListedFiles.{index_name, is_name_of}
 use Rattle.sasi_pairs.specs.Gathered.{GatheredIndex, IsBuilt}
-use Rattle.sasi_pairs.specs.SealedFiles.{AreAbsent, AreAmong, HasSyncedIndex, IsTaken, has_index, is_index_of, is_name_of}
+use Rattle.sasi_pairs.specs.SealedFiles.{AreAbsent, AreAmong, HasSyncedIndex, IsTaken, has_index, is_index_of}
 use Rattle.sasi_pairs.proofs.CauseLaws.{IsQuiet, quiet_none, quiet_on}
 use Rattle.sasi_pairs.proofs.Replaced.{all_taken, left_there, others_left, taken_there}
 use Rattle.sasi_pairs.proofs.SyncedFiles.{absent_kept, before_apart, behind_apart, indexes_kept, numbers}

@@ -15,7 +15,7 @@ use Rattle.sasi_manifest.specs.declared.edit.Edit.TheVariants.{Replace}
 use Rattle.sasi_manifest.specs.declared.files.ListedFile.{ListedFile}
 use Rattle.sasi_manifest.specs.declared.files.PartNumber.{PartNumber}
 use Rattle.sasi_manifest.specs.declared.listing.Listing.{Listing}
-use Rattle.sasi_manifest.specs.ListedFiles.{index_name, names_of}
+use Rattle.sasi_manifest.specs.ListedFiles.{index_name}
 use Rattle.sasi_manifest.specs.OpenManifest.{IsEither}
 use Rattle.sasi_postings.specs.IndexFiles.{IsIndexFor}
 use Rattle.sasi_pairs.specs.Gathered.{GatheredIndex, defs_of}
@@ -66,11 +66,7 @@ pub record HasDurableIndex (v : View) (number : ℕ) (partitioner : Partitioner)
 
 -- ---- a data file with its index files
 
--- the name is one of these files
-abbrev pub is_name_of : ListedFile → FileName → Bool
-is_name_of file name = list_any (name_eq name) (names_of file)
-
--- it is one of these index files
+-- the name is that of one of these index files
 abbrev pub is_index_of : ListedFile → FileName → Bool
 is_index_of file name = list_any (name_eq name) (map (index_name file.number) file.parts)
 

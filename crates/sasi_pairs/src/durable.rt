@@ -12,7 +12,8 @@ ghost use Rattle.sasi_datawrite.specs.Writing.{IsWriting};
 ghost use Rattle.sasi_indexwrite.specs.TermsSoFar.{AreSortedPostings};
 ghost use Rattle.sasi_pairs.specs.Gathered.{IsBuilt};
 ghost use Rattle.sasi_pairs.specs.PairViews.{IsPairing};
-ghost use Rattle.sasi_pairs.specs.SealedFiles.{AreAbsent, AreAmong, AreDurable, HasSyncedIndex, is_name_of};
+ghost use Rattle.sasi_pairs.specs.SealedFiles.{AreAbsent, AreAmong, AreDurable, HasSyncedIndex};
+ghost use Rattle.sasi_manifest.specs.ListedFiles.{is_name_of};
 
 use crate::PairFault;
 use crate::builder::IndexBuilder;

@@ -9,10 +9,10 @@ ghost use Rattle.sasi_body.specs.Body.{HasBody};
 ghost use Rattle.sasi_datawrite.specs.Causes.{PushCauses};
 ghost use Rattle.sasi_datawrite.specs.Format.{Content};
 ghost use Rattle.sasi_datawrite.specs.Writing.{last_pair};
-ghost use Rattle.sasi_manifest.specs.ListedFiles.{IndexesRise};
+ghost use Rattle.sasi_manifest.specs.ListedFiles.{IndexesRise, is_name_of};
 ghost use Rattle.sasi_pairs.specs.Gathered.{CanIndex, IsBuilt, LacksClass, defs_of};
 ghost use Rattle.sasi_pairs.specs.PairViews.{IsPairing};
-ghost use Rattle.sasi_pairs.specs.SealedFiles.{AreAbsent, AreDefined, AreDurable, is_name_of};
+ghost use Rattle.sasi_pairs.specs.SealedFiles.{AreAbsent, AreDefined, AreDurable};
 
 use crate::builder::IndexBuilder;
 use crate::builders::builders_of;

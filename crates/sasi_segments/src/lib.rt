@@ -3,6 +3,7 @@
 #![tactic(auto)]
 
 mod gather;
+mod gathered;
 mod posting;
 
 pub use gather::Gather;

@@ -1,6 +1,6 @@
 // Postings, and how many bytes they take.
 ghost use Rattle.std.specs.Prelude.{◌≡◌, IfOk};
-ghost use Rattle.sasi_segments.specs.Postings.{posting_of, record_size};
+ghost use Rattle.sasi_segments.specs.Postings.{posting_of};
 
 use sasi_types::{ListKind, Pair, Term};
 use std::alloc::{AllocError, Global};
@@ -26,11 +26,4 @@ pub fn posting_of(
 {
     let term = Term::new(term.to_vec(alloc)?);
     Ok(Posting { list, term, pair })
-}
-
-/// How many bytes its record has in a segment file.
-pub fn record_size(posting: &Posting) -> u64
-    ensures { result ≡ record_size posting.now }
-{
-    posting.term.bytes().len() as u64 + 19
 }

@@ -17,7 +17,8 @@ use Rattle.sasi_manifest.specs.OpenManifest.{ManifestState, ManifestStands}
 use Rattle.sasi_manifest.proofs.Laws.{manifest_stays}
 use Rattle.sasi_folder.proofs.FolderLaws.{kinds_apart, numbers_apart}
 use Rattle.sasi_layout.specs.Layout.{Layout, bare}
-use Rattle.sasi_layout.specs.Flushed.{flush_makes, is_name_of}
+use Rattle.sasi_layout.specs.Flushed.{flush_makes}
+use Rattle.sasi_manifest.specs.ListedFiles.{is_name_of}
 use Rattle.sasi_layout.specs.Frames.{AgreeOn, OthersSame}
 use Rattle.sasi_layout.specs.NumbersInOrder.{HasNumbersInOrder}
 use Rattle.sasi_layout.proofs.Agreeing.{agree_deleted, tables_others}

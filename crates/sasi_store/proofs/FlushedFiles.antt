@@ -18,11 +18,10 @@ use Rattle.sasi_manifest.specs.declared.files.ListedFile.{ListedFile}
 use Rattle.sasi_manifest.specs.declared.files.PartNumber.{PartNumber}
 use Rattle.sasi_manifest.specs.declared.listing.Listing.{Listing}
 use Rattle.sasi_manifest.specs.Edits.{Applies, encoded}
-use Rattle.sasi_manifest.specs.ListedFiles.{index_name, names_of}
+use Rattle.sasi_manifest.specs.ListedFiles.{index_name, is_name_of, names_of}
 use Rattle.sasi_manifest.proofs.Applying.{applies_replace, writable}
 use Rattle.sasi_manifest.proofs.EditBytes.{edit_bytes, encoded_length, replace_length}
 use Rattle.sasi_folder.proofs.FolderLaws.{kinds_apart}
-use Rattle.sasi_layout.specs.Flushed.{is_name_of}
 use Rattle.sasi_layout.proofs.FileNameLaws.{all_names, kind_unnamed, name_itself}
 use Rattle.sasi_pairs.specs.SealedFiles.{AddOnly, HasDurableIndex}
 use Rattle.sasi_store.specs.declared.flush.FlushNumbers.{FlushNumbers}

@@ -9,8 +9,8 @@ use Rattle.sasi_host.proofs.NameCases.{name_cases}
 use Rattle.sasi_host.specs.View.{IsThere, IsTold, View, contents_in}
 use Rattle.sasi_host.specs.Disk.{Changes}
 use Rattle.sasi_manifest.specs.declared.files.PartNumber.{PartNumber}
-use Rattle.sasi_manifest.specs.ListedFiles.{names_of}
-use Rattle.sasi_layout.specs.Flushed.{flush_drops, flush_makes, is_name_of}
+use Rattle.sasi_manifest.specs.ListedFiles.{is_name_of, names_of}
+use Rattle.sasi_layout.specs.Flushed.{flush_drops, flush_makes}
 use Rattle.sasi_layout.proofs.FileNameLaws.{name_same, name_there}
 use Rattle.sasi_layout.proofs.KeptOn.{Turned}
 use Rattle.sasi_store.specs.declared.flush.FlushNumbers.{FlushNumbers}

@@ -13,10 +13,9 @@ use Rattle.sasi_host.proofs.ChangeLaws.{within_on}
 use Rattle.sasi_host.proofs.ContentLaws.{absent_where, contents_other}
 use Rattle.sasi_datawrite.specs.Format.{Content, data_bytes}
 use Rattle.sasi_folder.proofs.FolderLaws.{kinds_apart}
-use Rattle.sasi_layout.specs.Flushed.{is_name_of}
+use Rattle.sasi_manifest.specs.ListedFiles.{index_name, is_name_of, names_of}
 use Rattle.sasi_layout.specs.Moves.{new_listed_file}
 use Rattle.sasi_manifest.specs.declared.files.PartNumber.{PartNumber}
-use Rattle.sasi_manifest.specs.ListedFiles.{index_name, names_of}
 use Rattle.sasi_pairs.specs.Gathered.{GatheredIndex, defs_of}
 use Rattle.sasi_pairs.specs.PairViews.{IsPairing, PairView}
 use Rattle.sasi_pairs.specs.SealedFiles.{AreAbsent, AreDefined, AreDurable, HasDurableIndex}

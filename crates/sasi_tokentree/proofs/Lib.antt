@@ -4,6 +4,7 @@ pub mod WriteLaws
 pub mod Laws
 pub mod EntryPages
 pub mod LevelSteps
+pub mod SmallTrees
 pub mod AfterRead
 pub mod NodeParts
 pub mod NodeCounts

@@ -12,9 +12,9 @@ mod seek;
 mod tree;
 mod writing;
 
-pub use node_layout::{is_node_offset, tree_size};
+pub use node_layout::{MAX_ENTRIES, is_node_offset, tree_size};
 pub use order::is_rising;
 pub use sasi_types::{Pair, PairList, TreeRef};
 pub use seek::size_below_root;
 pub use tree::Tree;
-pub use writing::write;
+pub use writing::{put_small_tree, write};

@@ -8,16 +8,25 @@ use sasi_types::Pair;
 use std::alloc::{AllocError, Global};
 
 // The bytes of a node of these entries.
-#[tactic(auto, unfolding(crate::specs::Format::node))]
 pub fn node_bytes(alloc: Global, level: u8, entries: &[Pair]) -> Result<Vec<u8>, AllocError>
     requires { length entries.now ≤ 255 }
     ensures is { IfOk result (λ bytes. bytes.items ≡ node level entries.now) }
     ensures fit { OnOk result (AreFit entries.now) }
 {
     let mut bytes = Vec::new(alloc);
-    put_header(&mut bytes, level, entries.len() as u16)?;
-    put_entries(&mut bytes, entries)?;
+    put_node(&mut bytes, level, entries)?;
     Ok(bytes)
+}
+
+// Appends a node of these entries.
+#[tactic(auto, unfolding(crate::specs::Format::node))]
+pub fn put_node(bytes: &mut Vec<u8>, level: u8, entries: &[Pair]) -> Result<(), AllocError>
+    requires { length entries.now ≤ 255 }
+    ensures is { OnOk result (bytes.new.items ≡ bytes.old.items ++ node level entries.now) }
+    ensures fit { OnOk result (AreFit entries.now) }
+{
+    put_header(bytes, level, entries.len() as u16)?;
+    put_entries(bytes, entries)
 }
 
 #[tactic(auto, unfolding(crate::specs::Format::node_header))]

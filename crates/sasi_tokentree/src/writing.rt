@@ -5,7 +5,7 @@ ghost use Rattle.sasi_tokentree.specs.Format.{node, size, level_bytes, above, le
 ghost use Rattle.sasi_tokentree.specs.Heights.{level_limit, levels_size};
 ghost use Rattle.sasi_tokentree.specs.Writes.{ChangesFrom, Writes};
 
-use crate::node_encode::node_bytes;
+use crate::node_encode::{node_bytes, put_node};
 use crate::node_layout::{MAX_ENTRIES, MAX_NODE_BYTES, level_size, node_count, node_entries};
 use sasi_host::{FileName, Host, HostFault};
 use sasi_types::{Pair, PairList, TreeRef};
@@ -36,6 +36,24 @@ pub fn write<H: Host>(
     }
     Ok(TreeRef {
         root,
+        pairs: entries.len() as u64,
+    })
+}
+
+/// Appends the tree of so few pairs that one node has them, as it stands at this offset, for a caller that writes many of them by
+/// one call.
+pub fn put_small_tree(bytes: &mut Vec<u8>, at: u64, pairs: &PairList) -> Result<TreeRef, AllocError>
+    requires some { 0 < length pairs.now }
+    requires most { length pairs.now ≤ 255 }
+    ensures ok { OnOk result (bytes.new.items ≡ bytes.old.items ++ tree_bytes at pairs.now) }
+    ensures tree { IfOk result (λ tree. tree ≡ tree_ref at pairs.now) }
+    ensures short { OnOk result (length bytes.new.items ≤ length bytes.old.items + 4088) }
+    ensures fit { OnOk result (AreFit pairs.now) }
+{
+    let entries = pairs.as_slice();
+    put_node(bytes, 0, entries)?;
+    Ok(TreeRef {
+        root: at,
         pairs: entries.len() as u64,
     })
 }

@@ -40,7 +40,7 @@ loop-posting-preserved g c =
 pub returns-in_err-add_posting-clause-changes : goal.returns-in_err-add_posting-clause-changes
 returns-in_err-add_posting-clause-changes g c =
     let here = subst (λ h. HasTaken (g.H.Host.view c.args.host.now) (g.H.Host.view h) c.args.gather.now.postings c.loop-posting.gather.postings c.args.writer.now c.loop-posting.writer c.loop-posting.spill) (sym c.next.ensures.host) c.loop-posting.invariant in
-    touches_on _ _ _ c.args.writer.now.file here.changes (of_file _ _ c.args.writer.now.file c.loop-posting.writer.file here.file c.add_posting.ensures.changes)
+    touches_on _ _ _ c.args.writer.now.trees.file here.changes (of_file _ _ c.args.writer.now.trees.file c.loop-posting.writer.trees.file here.file c.add_posting.ensures.changes)
 
 pub returns-clause-room : goal.returns-clause-room
-returns-clause-room g c = subst (λ h. Reaches (g.H.Host.view h) c.loop-posting.writer.file c.loop-posting.writer.offset) (sym c.next.ensures.host) c.loop-posting.invariant.room
+returns-clause-room g c = subst (λ h. Reaches (g.H.Host.view h) c.loop-posting.writer.trees.file c.loop-posting.writer.trees.end) (sym c.next.ensures.host) c.loop-posting.invariant.room

@@ -1,6 +1,6 @@
 use Rattle.sasi_host.specs.Disk.{Within}
 use Rattle.sasi_host.proofs.ChangeLaws.{then_same}
-use Rattle.sasi_pairs.specs.SealedFiles.{is_name_of}
+use Rattle.sasi_manifest.specs.ListedFiles.{is_name_of}
 use Rattle.sasi_pairs.proofs.SealLaws.{all_durable}
 use Rattle.sasi_pairs.proofs.durable.finish_durably.Goals as goal
 

@@ -2,7 +2,8 @@ use Rattle.std.proofs.Common.{ℕ, subst, sym}
 use Rattle.sasi_host.specs.Disk.{Changes, Within}
 use Rattle.sasi_host.proofs.ChangeLaws.{within_on}
 use Rattle.sasi_datawrite.specs.Format.{data_bytes}
-use Rattle.sasi_pairs.specs.SealedFiles.{AreAbsent, is_index_of, is_name_of}
+use Rattle.sasi_pairs.specs.SealedFiles.{AreAbsent, is_index_of}
+use Rattle.sasi_manifest.specs.ListedFiles.{is_name_of}
 use Rattle.sasi_pairs.proofs.IndexLaws.{data_change, index_change}
 use Rattle.sasi_pairs.proofs.SealLaws.{absent_behind, data_holds, data_synced}
 use Rattle.sasi_pairs.proofs.durable.write_files.Goals as goal

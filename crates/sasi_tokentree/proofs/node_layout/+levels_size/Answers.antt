@@ -1,4 +1,4 @@
-use Rattle.std.proofs.Common.{arith, ◌∙◌}
+use Rattle.std.proofs.Common.{arith}
 use Rattle.sasi_tokentree.proofs.TreeSizes.{size_one, size_more}
 use Rattle.sasi_tokentree.proofs.node_layout.+levels_size.Goals as goal
 

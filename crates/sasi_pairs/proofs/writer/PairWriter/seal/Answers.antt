@@ -5,7 +5,8 @@ use Rattle.std.specs.Ordering.{nat_cmp}
 use Rattle.sasi_manifest.specs.declared.files.PartNumber.{PartNumber}
 use Rattle.sasi_pairs.specs.Gathered.{defs_of}
 use Rattle.sasi_pairs.specs.PairViews.{PairView}
-use Rattle.sasi_pairs.specs.SealedFiles.{AreAmong, AreDefined, is_name_of}
+use Rattle.sasi_pairs.specs.SealedFiles.{AreAmong, AreDefined}
+use Rattle.sasi_manifest.specs.ListedFiles.{is_name_of}
 use Rattle.sasi_pairs.proofs.IndexLaws.{within_none}
 use Rattle.sasi_pairs.proofs.PushLaws.{first_up, sorted_each}
 use Rattle.sasi_pairs.proofs.Replaced.{parts_among}
