@@ -1,2 +1,3 @@
 mod Dashes
 pub mod HostCalls
+pub mod Kept

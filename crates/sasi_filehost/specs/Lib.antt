@@ -1,3 +1,4 @@
 pub mod NameText
+pub mod OpenFiles
 pub mod RealFiles
 pub mod HostCounts

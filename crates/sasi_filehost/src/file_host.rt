@@ -25,7 +25,7 @@ pub struct FileHost {
 
 impl FileHost {
     /// The host of the folder at this path, which is made if it is missing. If it can't be opened, or the folder that it is
-    /// in can't be synced, each call fails. No later call but `list` takes memory.
+    /// in can't be synced, each call fails. No later call but `list` fails for lack of memory.
     pub fn at(rt: HostRuntime, path: &str) -> Result<FileHost, AllocError>
         ensures { IfOk result IsUncalled }
     {
@@ -77,7 +77,7 @@ impl Host for FileHost {
         ensures causes { ListCauses (told self.old) (told self.new) result }
         ensures unusable { StaysFailed self.old self.new result }
     {
-        let answer = match &self.folder {
+        let answer = match &mut self.folder {
             Some(folder) => folder.list(alloc),
             None => Err(HostFault::Failed),
         };

@@ -1,12 +1,15 @@
 // A folder of real files.
-ghost use Rattle.std.specs.Prelude.{◌+◌, ◌^◌, ◌≤◌, length, IfOk, OnOk};
+ghost use Rattle.std.specs.Prelude.{◌≡◌, ◌+◌, ◌^◌, ◌≤◌, length, IfOk, OnOk};
 ghost use Rattle.std.specs.List.Sorted.{IsStrictlySortedBy};
 ghost use Rattle.sasi_host.specs.Names.{name_cmp};
+ghost use Rattle.sasi_filehost.specs.OpenFiles.{IsClosed, IsUnwritten, OpensNone};
 
+use crate::descriptors::with_descriptor;
 use crate::name_text::MAX_NAME_LENGTH;
-use crate::open_files::OpenFiles;
 use crate::opening::open_folder;
+use crate::read_files::ReadFiles;
 use crate::reading::fill_at;
+use crate::written_files::WrittenFiles;
 use crate::{NameText, parse_name};
 use sasi_host::{FileName, HostFault};
 use std::alloc::{AllocError, Global};
@@ -28,8 +31,8 @@ pub struct Folder {
     path: String,
     // The folder itself.
     names: fs::File,
-    written: OpenFiles,
-    read: OpenFiles,
+    written: WrittenFiles,
+    read: ReadFiles,
 }
 
 impl Folder {
@@ -42,21 +45,25 @@ impl Folder {
         let parent = format!(in alloc; "{folder}..")?;
         let room = folder.len().saturating_add(MAX_NAME_LENGTH);
         let path = String::with_capacity(alloc, room)?;
+        let read = ReadFiles::new(alloc)?;
         match open_folder(&rt, folder.as_str(), parent.as_str()) {
             Ok(names) => Ok(Some(Folder {
                 rt,
                 folder,
                 path,
                 names,
-                written: OpenFiles::new(),
-                read: OpenFiles::new(),
+                written: WrittenFiles::new(),
+                read,
             })),
             Err(_) => Ok(None),
         }
     }
 
     // Writes the path of a file into its buffer.
-    fn set_path(&mut self, file: FileName) -> io::Result<()> {
+    fn set_path(&mut self, file: FileName) -> io::Result<()>
+        ensures read { self.new.read ≡ self.old.read }
+        ensures written { self.new.written ≡ self.old.written }
+    {
         self.path.clear();
         self.path.push_str(self.folder.as_str())?;
         let name = NameText(file);
@@ -67,9 +74,12 @@ impl Folder {
     }
 
     // Opens a file of the folder.
-    fn open(&mut self, file: FileName, options: OpenOptions) -> io::Result<fs::File> {
+    fn open(&mut self, file: FileName, options: OpenOptions) -> io::Result<fs::File>
+        ensures { OpensNone self.old.read self.new.read }
+    {
         self.set_path(file)?;
-        options.open(&self.rt, self.path.as_str())
+        let (rt, path) = (&self.rt, self.path.as_str());
+        with_descriptor(&mut self.read, || options.open(rt, path))
     }
 
     // The file, opened to be written or synced, and kept open.
@@ -83,32 +93,37 @@ impl Folder {
         self.written.get(name).ok_or(io::ErrorKind::NotFound.into())
     }
 
-    // The file, opened to be read, and kept open.
-    fn open_to_read(&mut self, name: FileName) -> io::Result<&fs::File> {
-        if self.written.get(name).is_some() {
-            return self.open_to_write(name);
+    // The file, if it is open.
+    fn kept(&mut self, name: FileName) -> Option<&fs::File> {
+        if self.read.recall(name) {
+            return self.read.get(name);
         }
-        if self.read.get(name).is_none() {
-            let mut options = OpenOptions::new();
-            options.read(true);
-            let file = self.open(name, options)?;
-            self.read.keep(name, file);
-        }
-        self.read.get(name).ok_or(io::ErrorKind::NotFound.into())
+        self.written.get(name)
+    }
+
+    // The file, opened to be read.
+    fn open_to_read(&mut self, name: FileName) -> io::Result<fs::File> {
+        let mut options = OpenOptions::new();
+        options.read(true);
+        self.open(name, options)
     }
 
     // Closes the file of this name: another one may get the name.
-    fn close(&mut self, name: FileName) {
+    fn close(&mut self, name: FileName)
+        ensures read { IsClosed self.new.read name }
+        ensures written { IsUnwritten self.new.written name }
+    {
         self.written.close(name);
         self.read.close(name);
     }
 
     /// The names of its files, in their order. A foreign name is left out.
-    pub fn list(&self, alloc: Global) -> Result<Vec<FileName>, HostFault>
+    pub fn list(&mut self, alloc: Global) -> Result<Vec<FileName>, HostFault>
         ensures { IfOk result (λ names. IsStrictlySortedBy name_cmp names.items) }
     {
         let mut names = BTreeSet::new(alloc);
-        let entries = match fs::read_dir(&self.rt, self.folder.as_str()) {
+        let (rt, path) = (&self.rt, self.folder.as_str());
+        let entries = match with_descriptor(&mut self.read, || fs::read_dir(rt, path)) {
             Ok(entries) => entries,
             Err(error) => return Err(fault_of(error)),
         };
@@ -122,18 +137,32 @@ impl Folder {
 
     /// How many bytes a file has.
     pub fn size(&mut self, name: FileName) -> io::Result<u64> {
-        Ok(self.open_to_read(name)?.metadata()?.len())
+        if let Some(file) = self.kept(name) {
+            return size_of(file);
+        }
+        let file = self.open_to_read(name)?;
+        let answer = size_of(&file);
+        self.read.keep(name, file);
+        answer
     }
 
     /// Fills the buffer from this offset on, as far as the file reaches.
     pub fn read(&mut self, name: FileName, at: u64, buf: &mut [u8]) -> io::Result<usize>
         ensures { IfOk result (λ count. count ≤ length buf.old) }
     {
-        fill_at(self.open_to_read(name)?, at, buf)
+        if let Some(file) = self.kept(name) {
+            return fill_at(file, at, buf);
+        }
+        let file = self.open_to_read(name)?;
+        let answer = fill_at(&file, at, buf);
+        self.read.keep(name, file);
+        answer
     }
 
     /// Makes an empty file.
-    pub fn create(&mut self, name: FileName) -> io::Result<()> {
+    pub fn create(&mut self, name: FileName) -> io::Result<()>
+        ensures read { IsClosed self.new.read name }
+    {
         self.close(name);
         let mut options = OpenOptions::new();
         options.read(true).write(true).create_new(true);
@@ -159,7 +188,10 @@ impl Folder {
     }
 
     /// Removes a file from the folder.
-    pub fn delete(&mut self, name: FileName) -> io::Result<()> {
+    pub fn delete(&mut self, name: FileName) -> io::Result<()>
+        ensures read { IsClosed self.new.read name }
+        ensures written { IsUnwritten self.new.written name }
+    {
         self.close(name);
         self.set_path(name)?;
         fs::remove_file(&self.rt, self.path.as_str())
@@ -169,6 +201,11 @@ impl Folder {
     pub fn sync_names(&self) -> io::Result<()> {
         self.names.sync_all()
     }
+}
+
+// How many bytes an open file has.
+fn size_of(file: &fs::File) -> io::Result<u64> {
+    Ok(file.metadata()?.len())
 }
 
 // Why a folder can't be listed.

@@ -9,6 +9,8 @@ mod crashes;
 #[cfg(test)]
 mod gated;
 #[cfg(test)]
+mod many_files;
+#[cfg(test)]
 mod memory;
 #[cfg(test)]
 mod real_files;

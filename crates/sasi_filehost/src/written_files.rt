@@ -1,4 +1,7 @@
-// Files that are kept open from call to call.
+// Files that are kept open to be written.
+ghost use Rattle.std.specs.Prelude.{◌≡◌};
+ghost use Rattle.sasi_filehost.specs.OpenFiles.{IsUnwritten, is_of};
+
 use sasi_host::FileName;
 use std::fs;
 
@@ -6,21 +9,21 @@ const SLOTS: usize = 8;
 
 // An open file of the folder.
 #[derive(Drop)]
-struct OpenFile {
+pub struct OpenFile {
     name: FileName,
     file: fs::File,
 }
 
-// Up to eight open files. Where all slots are full, the slot that was filled first is reused.
+// Up to eight files that are written. Where all slots are full, the slot that was filled first is reused.
 #[derive(Drop)]
-pub struct OpenFiles {
+pub struct WrittenFiles {
     slots: [Option<OpenFile>; SLOTS],
     next: usize,
 }
 
-impl OpenFiles {
-    pub fn new() -> OpenFiles {
-        OpenFiles {
+impl WrittenFiles {
+    pub fn new() -> WrittenFiles {
+        WrittenFiles {
             slots: [None, None, None, None, None, None, None, None],
             next: 0,
         }
@@ -45,7 +48,9 @@ impl OpenFiles {
     }
 
     // Closes the file of this name, if it is open: another file may get the name.
-    pub fn close(&mut self, name: FileName) {
+    pub fn close(&mut self, name: FileName)
+        ensures closed { IsUnwritten self.new name }
+    {
         for slot in self.slots.iter_mut() {
             if is_of(slot, name) {
                 *slot = None;
@@ -55,7 +60,9 @@ impl OpenFiles {
 }
 
 // Whether a slot has the file of this name.
-fn is_of(slot: &Option<OpenFile>, name: FileName) -> bool {
+fn is_of(slot: &Option<OpenFile>, name: FileName) -> bool
+    ensures { result ≡ is_of name slot.now }
+{
     match slot {
         Some(open) => open.name == name,
         None => false,
