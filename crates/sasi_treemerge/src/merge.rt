@@ -1,5 +1,5 @@
 // Merges the pairs of several trees of a file.
-ghost use Rattle.std.specs.Prelude.{◌≡◌, ◌+◌, ◌*◌, ◌-◌, ◌≤◌, ◌<◌, ◌∷◌, [], List, None, IfErr, IfOk, OnOk, Some, max};
+ghost use Rattle.std.specs.Prelude.{◌≡◌, ◌+◌, ◌*◌, ◌-◌, ◌≤◌, ◌<◌, ◌∷◌, [], List, None, IfErr, IfOk, IfSome, OnOk, Some, max, true};
 ghost use Rattle.std.specs.BinaryHeap.{IsHeap, KeepsHeap, heap_items};
 ghost use Rattle.std.specs.List.Sorted.{IsPermutation};
 ghost use Rattle.sasi_types.specs.declared.tree.Pair.{Pair as SpecPair};
@@ -152,6 +152,8 @@ impl TreeMerge {
         // In any file no source is dropped before its tree's end, and there is no pair only where no source is left.
         ensures each { OnOk result (ReadsEach (H.view host.old) self.old.file (sources_of self.old) (sources_of self.new)) }
         ensures ends { IfOk result (λ found. found ≡ None → sources_of self.new ≡ []) }
+        // In any file pairs rise, so a loop over them ends.
+        ensures behind { IfOk result (λ found. IfSome found (λ pair. is_left self.old.last self.old.floor pair ≡ true)) }
         ensures damaged { IfErr result (DamageShown (H.view host.old) self.old.file (ShowsSources (sources_of self.old) self.old.file)) }
         ensures undamaged { IfErr result (NoFalseDamageOf (H.view host.old) self.old.file (sources_of self.old)) }
         ensures read { HasRead (P.agrees pages.new) (P.covers pages.old) (P.covers pages.new) (H.view host.old) (H.view host.new) self.old.file }

@@ -153,3 +153,9 @@ returns-then-is_left-clause-each g c =
 
 pub returns-then-is_left-clause-ends : goal.returns-then-is_left-clause-ends
 returns-then-is_left-clause-ends g c none = absurd cc
+
+pub returns-then-is_left-clause-behind : goal.returns-then-is_left-clause-behind
+returns-then-is_left-clause-behind g c =
+    let here = c.loop-pair.invariant in
+    let same = c.take_head.ensures.same in
+    sym (left_same c.args.self.now.last c.take_head.new.self.last c.args.self.now.floor c.take_head.new.self.floor c.in-Some.pair (same.1 ∙ here.last) (same.2 ∙ here.floor)) ∙ sym c.is_left.ensures ∙ c.if-is_left.true
