@@ -1,6 +1,9 @@
 -- The framing of a file: a header at its start, and a footer at its end.
-use Rattle.std.specs.Prelude.{◌≡◌, ℕ, ◌+◌, ◌-◌, ◌++◌, length}
+use Rattle.std.specs.Prelude.{◌≡◌, ℕ, ◌+◌, ◌-◌, ◌≤◌, ◌++◌, length, min, Some}
+use Rattle.sasi_host.specs.declared.name.FileName.{FileName}
 use Rattle.sasi_host.specs.Names.{Bytes}
+use Rattle.sasi_host.specs.View.{View, contents}
+use Rattle.sasi_host.specs.Buffered.{pages_of}
 use Rattle.sasi_host.specs.Damages.{HasAt}
 use Rattle.sasi_formats.specs.Formats.{Format, Fits, encoded}
 
@@ -34,3 +37,9 @@ pub record EndsWith (size : ℕ) (footer bytes : Bytes) : Type 0 where
 pub record BeginsAndEndsWith (size : ℕ) (header footer bytes : Bytes) : Type 0 where
   pub begins : HasAt bytes 0 header
   pub end : EndsWith size footer bytes
+
+-- ---- reads
+
+-- the header and the footer are read by at most three reads, and by no more than the file has pages
+abbrev pub OpensWithinPages : View → View → FileName → Type 0
+OpensWithinPages old new file = (bytes : Bytes) → contents old file ≡ Some bytes → new.reads ≤ old.reads + min 3 (pages_of 0 (length bytes))
