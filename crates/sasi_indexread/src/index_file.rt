@@ -5,6 +5,7 @@ ghost use Rattle.sasi_host.specs.Names.{Bytes};
 ghost use Rattle.sasi_host.specs.View.{ReadCost, contents};
 ghost use Rattle.sasi_host.specs.Damages.{DamageShown};
 ghost use Rattle.sasi_host.specs.PageReading.{CanRead, HasRead};
+ghost use Rattle.sasi_framing.specs.Framing.{OpensWithinPages};
 ghost use Rattle.sasi_indexwrite.specs.Content.{IndexContent};
 ghost use Rattle.sasi_indexwrite.specs.Files.{IsIndexFile};
 ghost use Rattle.sasi_indexread.specs.Opened.{IsOpenOn, NoFalseIndexDamage};
@@ -52,6 +53,7 @@ impl IndexFile {
         ensures undamaged { IfErr result (NoFalseIndexDamage (H.view host.old) file) }
         ensures read { HasRead (P.agrees pages.new) (P.covers pages.old) (P.covers pages.new) (H.view host.old) (H.view host.new) file }
         ensures causes { ReadCost 3 (H.view host.old) (H.view host.new) result }
+        ensures reads { OpensWithinPages (H.view host.old) (H.view host.new) file }
     {
         let (kind, footer) = read_footer(host, pages, file)?;
         Ok(IndexFile {

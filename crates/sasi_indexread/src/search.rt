@@ -1,5 +1,5 @@
 // Searches of an index file.
-ghost use Rattle.std.specs.Prelude.{◌≡◌, ◌+◌, ◌*◌, ◌^◌, ◌≤◌, max, [], None, IfErr, IfOk, IsOk, OnOk, true, false};
+ghost use Rattle.std.specs.Prelude.{◌≡◌, ◌+◌, ◌*◌, ◌^◌, ◌≤◌, max, [], None, IfErr, IfOk, IfSome, IsOk, OnOk, true, false};
 ghost use Rattle.std.specs.BinaryHeap.{IsHeap};
 ghost use Rattle.sasi_host.specs.View.{ReadCost};
 ghost use Rattle.sasi_host.specs.Damages.{DamageShown};
@@ -8,7 +8,7 @@ ghost use Rattle.sasi_indexwrite.specs.Content.{IndexContent};
 ghost use Rattle.sasi_indexread.specs.Asked.{AreNumberTerms, asked_lists, holding_lists};
 ghost use Rattle.sasi_indexread.specs.Costs.{cost_left};
 ghost use Rattle.sasi_indexread.specs.Damages.{ShowsIndex};
-ghost use Rattle.sasi_treemerge.specs.Merges.{IsLeast, SpendsReads, last_after, sources_of};
+ghost use Rattle.sasi_treemerge.specs.Merges.{IsLeast, SpendsReads, is_left, last_after, sources_of};
 ghost use Rattle.sasi_indexread.specs.Searches.{CanSearch, FailsAsRead, IsSearching, NoFalseSearchDamage, NoFalseSearchingDamage, searching};
 ghost use Rattle.sasi_treemerge.specs.Sources.{source_cmp};
 
@@ -89,6 +89,7 @@ fn next_pair<H: Host, P: PageReader>(
     requires search { CanSearch (H.view host.old) (searching index.now op.now body.now is_collected.old merge.old) }
     ensures ok { IfOk result (λ found. (content : IndexContent) → IsSearching (H.view host.old) (searching index.now op.now body.now is_collected.old merge.old) content
         → IsLeast (asked_lists content op.now body.now) merge.old.last merge.old.floor found × IsSearching (H.view host.new) (searching index.now op.now body.now is_collected.new merge.new) content) }
+    ensures behind { IfOk result (λ found. IfSome found (λ pair. is_left merge.old.last merge.old.floor pair ≡ true)) }
     ensures last { IfOk result (λ found. merge.new.last ≡ last_after merge.old.last found) }
     ensures floor { OnOk result (merge.new.floor ≡ merge.old.floor) }
     ensures search { OnOk result (CanSearch (H.view host.new) (searching index.now op.now body.now is_collected.new merge.new)) }
@@ -141,6 +142,8 @@ impl Search {
         // In an index of numbers, a range gives the pairs of those that are in it.
         ensures numbers { IfOk result (λ found. (content : IndexContent) → IsSearching (H.view host.old) self.old content → AreNumberTerms content
             → IsLeast (holding_lists content self.old.op self.old.body) self.old.merge.last self.old.merge.floor found) }
+        // In any file pairs rise, so a loop over them ends.
+        ensures behind { IfOk result (λ found. IfSome found (λ pair. is_left self.old.merge.last self.old.merge.floor pair ≡ true)) }
         ensures last { IfOk result (λ found. self.new.merge.last ≡ last_after self.old.merge.last found) }
         ensures floor { OnOk result (self.new.merge.floor ≡ self.old.merge.floor) }
         ensures search { OnOk result (CanSearch (H.view host.new) self.new) }

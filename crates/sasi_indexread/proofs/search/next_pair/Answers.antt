@@ -1,6 +1,8 @@
-use Rattle.std.proofs.Common.{◌∙◌, arith}
+use Rattle.std.proofs.Common.{◌≡◌, ℕ, Option, true, arith, subst}
+use Rattle.std.specs.Prelude.{IfSome}
 use Rattle.std.proofs.lemmas.Result.{err_from_is_err_and}
-use Rattle.sasi_treemerge.specs.Merges.{sources_of}
+use Rattle.sasi_types.specs.declared.tree.Pair.{Pair}
+use Rattle.sasi_treemerge.specs.Merges.{is_left, sources_of}
 use Rattle.sasi_treemerge.proofs.Stepping.{read_next}
 use Rattle.sasi_indexread.specs.Searches.{searching}
 use Rattle.sasi_indexread.proofs.Counting.{left_then}
@@ -72,3 +74,9 @@ returns-in_err-found-clause-reads g c content was =
     let done = c.in_ok-keep_collected.ensures.collected in
     let left = left_then c.args.index.now c.args.op.now c.args.body.now c.keep_collected.new.is_collected c.keep_collected.new.merge content done in
     rw p.1 (omega (arith, c.in_ok-keep_collected.ensures.reads content was, c.in_err-found.ensures.causes.reads, left))
+
+pub returns-clause-behind : goal.returns-clause-behind
+returns-clause-behind g c =
+    let same = c.keep_collected.ensures.same in
+    subst (λ (last : Option Pair). IfSome c.in_ok-found.found (λ pair. is_left last c.args.merge.now.floor pair ≡ true)) same.0
+    (subst (λ (floor : ℕ). IfSome c.in_ok-found.found (λ pair. is_left c.keep_collected.new.merge.last floor pair ≡ true)) same.1 c.in_ok-found.ensures.behind)

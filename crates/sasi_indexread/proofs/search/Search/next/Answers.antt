@@ -1,6 +1,6 @@
-use Rattle.std.proofs.Common.{List, ℕ, subst}
-use Rattle.std.specs.Prelude.{IfOk}
-use Rattle.sasi_treemerge.specs.Merges.{IsLeast, SpendsReads}
+use Rattle.std.proofs.Common.{◌≡◌, List, ℕ, subst, true}
+use Rattle.std.specs.Prelude.{IfOk, IfSome}
+use Rattle.sasi_treemerge.specs.Merges.{IsLeast, SpendsReads, is_left}
 use Rattle.sasi_indexwrite.specs.Content.{IndexContent}
 use Rattle.sasi_indexread.specs.Asked.{asked_lists}
 use Rattle.sasi_indexread.specs.Costs.{cost_left}
@@ -35,3 +35,7 @@ returns-clause-reads g c =
     let own = subst (λ (b : List ℕ). (content : IndexContent) → IsSearching v (searching here.index here.op b here.is_collected here.merge) content
     → SpendsReads v w (cost_left (searching here.index here.op b here.is_collected here.merge) content) (cost_left (searching here.index here.op b c.next_pair.new.is_collected c.next_pair.new.merge) content) c.next_pair.result) c.deref.ensures.value c.next_pair.ensures.reads in
     subst (λ (s : Searching). (content : IndexContent) → IsSearching v s content → SpendsReads v w (cost_left s content) (cost_left now content) c.next_pair.result) c.self.view_is own
+
+pub returns-clause-behind : goal.returns-clause-behind
+returns-clause-behind g c =
+    subst (λ (s : Searching). IfOk c.next_pair.result (λ found. IfSome found (λ pair. is_left s.merge.last s.merge.floor pair ≡ true))) c.self.view_is c.next_pair.ensures.behind
