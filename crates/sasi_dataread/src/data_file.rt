@@ -10,6 +10,7 @@ ghost use Rattle.sasi_tokentree.specs.Heights.{height};
 ghost use Rattle.sasi_host.specs.Damages.{DamageShown};
 ghost use Rattle.sasi_host.specs.Buffered.{IsBuffered};
 ghost use Rattle.sasi_host.specs.PageReading.{CanRead, HasRead};
+ghost use Rattle.sasi_framing.specs.Framing.{OpensWithinPages};
 ghost use Rattle.sasi_datawrite.specs.Format.{Content, header};
 ghost use Rattle.sasi_datawrite.specs.Files.{IsDataFile};
 ghost use Rattle.sasi_dataread.specs.Opened.{IsOpenedAs, StandsAt};
@@ -68,6 +69,7 @@ impl DataFile {
         ensures undamaged { IfErr result (NoFalseDataDamage (H.view host.old) file) }
         ensures read { HasRead (P.agrees pages.new) (P.covers pages.old) (P.covers pages.new) (H.view host.old) (H.view host.new) file }
         ensures causes { ReadCost 3 (H.view host.old) (H.view host.new) result }
+        ensures reads { OpensWithinPages (H.view host.old) (H.view host.new) file }
     {
         let footer = read_footer(host, pages, file)?;
         let types = copy_types(alloc, types)?;

@@ -5,7 +5,7 @@ ghost use Rattle.sasi_host.specs.Names.{Bytes};
 ghost use Rattle.sasi_host.specs.View.{ReadCost, contents};
 ghost use Rattle.sasi_host.specs.Damages.{DamageShown};
 ghost use Rattle.sasi_host.specs.PageReading.{CanRead, HasRead};
-ghost use Rattle.sasi_framing.specs.Framing.{BeginsAndEndsWith};
+ghost use Rattle.sasi_framing.specs.Framing.{BeginsAndEndsWith, OpensWithinPages};
 ghost use Rattle.sasi_dataread.specs.Reads.{NoFalseDataDamage};
 ghost use Rattle.sasi_dataread.specs.Damages.{ShowsHeaderOrFooter};
 ghost use Rattle.sasi_dataread.specs.HeaderAndFooter.{HasHeaderAndFooter};
@@ -56,6 +56,7 @@ pub fn read_footer<H: Host, P: PageReader>(
     ensures undamaged { IfErr result (NoFalseDataDamage (H.view host.old) file) }
     ensures read { HasRead (P.agrees pages.new) (P.covers pages.old) (P.covers pages.new) (H.view host.old) (H.view host.new) file }
     ensures causes { ReadCost 3 (H.view host.old) (H.view host.new) result }
+    ensures reads { OpensWithinPages (H.view host.old) (H.view host.new) file }
 {
     let mut header = [0; HEADER];
     let mut footer = [0; FOOTER];
