@@ -1,0 +1,16 @@
+use Rattle.std.proofs.Common.{ℕ, List, ◌+◌, ◌≤◌, Ok, take}
+use Rattle.sasi_ranges.specs.declared.entry.Entry.{Entry}
+use Rattle.sasi_ranges.specs.StreamCalls.{CanStream, HasStreamed, StreamFaults}
+use Rattle.sasi_ranges.specs.inside.Heads.{AllLeave, AreRead, HeadsOpen, HeadsPay, HeadsReady, HeadsShow}
+use Rattle.sasi_ranges.proofs.heads.fill_all.Given as goal
+
+abbrev pub invariant-loop-head : goal.invariant-loop-head
+invariant-loop-head g l = record {
+  can : CanStream (g.P.PageReader.agrees l.pages) (HeadsOpen g.S.TokenStream.opens l.streams) (g.H.Host.view l.host);
+  still_ready : HeadsReady g.S.TokenStream.ready (g.H.Host.view l.host).files l.streams;
+  leaves : (lists : List (List Entry)) → AllLeave g.S.TokenStream.leaves (g.H.Host.view l.fn.host).files l.fn.streams lists → AllLeave g.S.TokenStream.leaves (g.H.Host.view l.host).files l.streams lists;
+  filled : AreRead (take l.head-index l.streams);
+  pays : (most : ℕ) → HeadsPay g.S.TokenStream.pays (g.H.Host.view l.fn.host).files l.fn.streams most → (rest : ℕ) × HeadsPay g.S.TokenStream.pays (g.H.Host.view l.host).files l.streams rest × ((g.H.Host.view l.host).reads + rest ≤ (g.H.Host.view l.fn.host).reads + most);
+  read : HasStreamed (g.P.PageReader.agrees l.pages) (g.P.PageReader.covers l.fn.pages) (g.P.PageReader.covers l.pages) (HeadsOpen g.S.TokenStream.opens l.fn.streams) (HeadsOpen g.S.TokenStream.opens l.streams) (g.H.Host.view l.fn.host) (g.H.Host.view l.host);
+  faults : StreamFaults {T = ℕ} (HeadsShow g.S.TokenStream.shows (g.H.Host.view l.fn.host).files l.fn.streams) (HeadsShow g.S.TokenStream.shows (g.H.Host.view l.host).files l.streams) (AllLeave g.S.TokenStream.leaves (g.H.Host.view l.fn.host).files l.fn.streams) (g.H.Host.view l.fn.host) (g.H.Host.view l.host) (Ok 0);
+}

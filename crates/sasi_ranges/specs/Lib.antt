@@ -1,0 +1,5 @@
+pub mod Entries
+pub mod Lists
+pub mod StreamCalls
+pub mod EachStream
+pub mod inside

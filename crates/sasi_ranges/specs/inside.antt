@@ -1,0 +1,4 @@
+pub mod Heads
+pub mod Unions
+pub mod Meets
+pub mod Keeping

@@ -1,0 +1,12 @@
+use Rattle.sasi_host.specs.Memory.{host_view, memory_host}
+use Rattle.sasi_ranges_tests.proofs.InMemory.{all_ready, no_file, of_ok}
+use Rattle.sasi_ranges_tests.proofs.unions.check_union.Goals as goal
+
+pub check-requires-clause-read : goal.check-requires-clause-read
+check-requires-clause-read g c = record {
+  there = λ name is. absurd (no_file _ (λ s file opened. opened) _ name (of_ok _ c.new.result c.expect-union.result c.expect-union.ensures c.new.ensures.opens name is));
+  agrees = tt;
+}
+
+pub check-requires-clause-ready : goal.check-requires-clause-ready
+check-requires-clause-ready g c = all_ready (λ s files. Unit {0}) (host_view (memory_host c.new-host.result)).files (λ s. tt) _
