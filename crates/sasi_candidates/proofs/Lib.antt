@@ -1,0 +1,11 @@
+mod Winners
+pub mod Hits
+pub mod Answers
+pub mod ReadingLaws
+pub mod PairLists
+mod ListTests
+mod PostingTests
+pub mod FileHits
+pub mod FileIndexes
+pub mod Asking
+mod Examples

@@ -1,0 +1,6 @@
+pub mod Parts
+pub mod Candidates
+pub mod Checks
+pub mod Reading
+pub mod LayoutParts
+pub mod Searches
