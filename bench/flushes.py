@@ -15,18 +15,19 @@ for each FLUSH, and rows in the order of their keys. All folders stand in memory
 """
 import os
 import shutil
+import statistics
 import subprocess
 import sys
 import tempfile
 
-from processes import MEMORY, measured
+from processes import MEMORY, measured, timed
 
 COUNT, EACH = 100000, 10000
 ROWS, FILES = 1000000, 10
 BESIDES = 8192
 TRIES = 3
 # Rows of one memtable, whose cells are fewer than make it flush itself; and how often a flush of them is run.
-INDEXED, FLUSH_TRIES = 20000, 9
+INDEXED, FLUSH_TRIES = 20000, 60
 TIMES, POSTING = 2.5, 80
 
 
@@ -191,26 +192,29 @@ def measure_flushes(program, top):
     return above
 
 
-def flush_of(program, top, create):
-    """What a FLUSH of the rows takes beyond their INSERTs: seconds, and KiB of memory."""
+def spent(program, top, script, run_it):
+    """What a run over a new folder takes."""
+    folder = os.path.join(top, 'folder')
+    taken = run_it([program, folder, script])
+    shutil.rmtree(folder)
+    return taken
+
+
+def flush_of(program, top, name, create):
+    """What a FLUSH of the rows takes beyond their INSERTs: seconds, and KiB of memory. A run with it follows each without, and of these
+    differences the middle one counts, so that what else the machine does meets both alike."""
     rows = create + [insert(n) for n in range(INDEXED)]
-    names = {'inserts': rows, 'flushed': rows + ['FLUSH t;\n']}
-    costs = {}
-    for name, lines in names.items():
-        script = write_script(os.path.join(top, name), lines)
-        runs = []
-        for _ in range(FLUSH_TRIES):
-            folder = os.path.join(top, 'folder')
-            runs.append(run([program, folder, script]))
-            shutil.rmtree(folder)
-        costs[name] = min(r[0] for r in runs), min(r[1] for r in runs)
-    return costs['flushed'][0] - costs['inserts'][0], costs['flushed'][1] - costs['inserts'][1]
+    inserts_alone = write_script(os.path.join(top, name), rows)
+    flushed = write_script(os.path.join(top, name + '-flushed'), rows + ['FLUSH t;\n'])
+    seconds = [-spent(program, top, inserts_alone, timed) + spent(program, top, flushed, timed) for _ in range(FLUSH_TRIES)]
+    memory = [min(spent(program, top, script, run)[1] for _ in range(TRIES)) for script in (inserts_alone, flushed)]
+    return statistics.median(seconds), memory[1] - memory[0]
 
 
 def measure_indexes(program, top):
     """Whether a FLUSH with two indexes took more than it may."""
-    plain, plain_memory = flush_of(program, top, [CREATE])
-    indexed, memory = flush_of(program, top, [CREATE, INDEXES])
+    plain, plain_memory = flush_of(program, top, 'plain', [CREATE])
+    indexed, memory = flush_of(program, top, 'indexed', [CREATE, INDEXES])
     print_run('a FLUSH of %d rows' % INDEXED, plain, plain_memory)
     print_run('with two indexes', indexed, memory)
     print('it takes %.2f times the time, and %.1f bytes of memory for each posting' % (indexed / plain, memory * 1024 / (2 * INDEXED)))

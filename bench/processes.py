@@ -27,3 +27,13 @@ def measured(words, read=os.devnull, written=os.devnull):
             ended, status, usage = os.wait4(process.pid, os.WNOHANG)
         process.returncode = os.waitstatus_to_exitcode(status)
         return usage.ru_utime + usage.ru_stime, memory, process.returncode
+
+
+def timed(words):
+    """The processor's seconds of a run that has to succeed. Nothing looks at it meanwhile, which would itself take time."""
+    process = subprocess.Popen(words, stdin=subprocess.DEVNULL, stdout=subprocess.DEVNULL)
+    _, status, usage = os.wait4(process.pid, 0)
+    process.returncode = os.waitstatus_to_exitcode(status)
+    if process.returncode:
+        raise SystemExit('failed: %s' % ' '.join(words))
+    return usage.ru_utime + usage.ru_stime
