@@ -174,7 +174,7 @@ module _ (g : Partition → Bool) where
       by false rest = rest
 
   -- a key is kept where its partition passes
-  kept_at : (q : DecoratedKey) (es : List (DecoratedKey × Partition)) → T (is_sorted decorated_cmp es) → list_any (eq_by_cmp decorated_cmp q) (kept es) ≡ option_map_or g (map_.find decorated_cmp q es) false
+  pub kept_at : (q : DecoratedKey) (es : List (DecoratedKey × Partition)) → T (is_sorted decorated_cmp es) → list_any (eq_by_cmp decorated_cmp q) (kept es) ≡ option_map_or g (map_.find decorated_cmp q es) false
   kept_at q [] sorted = refl
   kept_at q (e ∷ es) sorted = by (eq_by_cmp decorated_cmp q e.0) refl (g e.1) refl (kept_at q es (second_true _ _ sorted))
     where

@@ -1,6 +1,6 @@
 -- The postings of one partition: each is one that can be stored, at the partition's pair, and none is there twice.
 use Rattle.std.proofs.Common.{◌≡◌, ◌≢◌, ℕ, zero, suc, ◌+◌, get_or, subst, ◌<◌, ◌≤◌, Bool, true, false, List, [], ◌∷◌, ◌++◌, length, map, refl, sym, ◌∙◌, ap, arith}
-use Rattle.std.specs.Prelude.{not, if◌then◌else◌, drop, Result, Ok, Err, OnOk}
+use Rattle.std.specs.Prelude.{not, ◌||◌, if◌then◌else◌, drop, Result, Ok, Err, OnOk}
 use Rattle.std.specs.List.{AllByRecursion, dedup, dedup_from, filter, list_any}
 use Rattle.std.specs.List.Sorted.{IsPermutation, IsSorted, IsStrictlySortedBy}
 use Rattle.std.specs.declared.cmp.Ordering.{Ordering}
@@ -20,8 +20,8 @@ use Rattle.sasi_types.specs.Term.{term_cmp, term_eq}
 use Rattle.sasi_host.specs.Names.{Bytes}
 use Rattle.sasi_segments.specs.declared.posting.Posting.{Posting}
 use Rattle.sasi_segments.specs.Gathering.{Gathering}
-use Rattle.sasi_segments.specs.Postings.{posting_of}
-use Rattle.sasi_segments.specs.Sorting.{sort}
+use Rattle.sasi_segments.specs.Postings.{posting_cmp, posting_of}
+use Rattle.sasi_segments.specs.Sorting.{inserted, sort}
 use Rattle.sasi_segments.proofs.Sorting as sorting
 use Rattle.sasi_indexwrite.specs.TermsSoFar.{IsPosting}
 use Rattle.sasi_indexwrite.proofs.Callers.{all_inserted}
@@ -211,3 +211,32 @@ gathered_with all pair terms next lt old = record {
   sorted = sorted_with all (postings_of pair terms) old.sorted (postings_each pair terms) (postings_differ pair terms) (new_at pair.place all (postings_of pair terms) old.below (postings_place pair terms));
   below = all_with (λ p. p.pair.place < next) all (postings_of pair terms) (below_more pair.place next all (omega (arith, lt)) old.below) (below_at pair.place next (postings_of pair terms) lt (postings_place pair terms));
 }
+
+-- ---- the only term of a value
+
+alone : Bool → Pair → Bytes → List Posting
+alone true pair term = posting_of term Stored pair ∷ []
+alone false pair term = posting_of [] Spill pair ∷ []
+
+-- its one posting
+alone_is : (pair : Pair) (term : Bytes) → postings_of pair (term ∷ []) ≡ alone (is_short term) pair term
+unfolding alone sort inserted
+alone_is pair term = by (is_short term)
+  where
+    by : (b : Bool) → map (λ t. posting_of t Stored pair) (distinct (if b then term ∷ [] else [])) ++ (if not b || false then posting_of [] Spill pair ∷ [] else []) ≡ alone b pair term
+    by true = refl
+    by false = refl
+
+pub short_added : {E : Type 0} (pair : Pair) (term bytes : Bytes) (old new : Gathering) (result : Result (Unit {0}) E) → is_short term ≡ true → bytes ≡ term
+    → OnOk result (new ≡ record old { postings = inserted posting_cmp (posting_of bytes Stored pair) old.postings })
+    → OnOk result (new ≡ record old { postings = with_postings old.postings (postings_of pair (term ∷ [])) })
+unfolding alone
+short_added pair term bytes old new result short same added =
+    subst (λ (l : List Posting). OnOk result (new ≡ record old { postings = with_postings old.postings l })) (sym (alone_is pair term ∙ ap (λ (b : Bool). alone b pair term) short))
+    (subst (λ (t : Bytes). OnOk result (new ≡ record old { postings = inserted posting_cmp (posting_of t Stored pair) old.postings })) same added)
+
+pub long_added : {E : Type 0} (pair : Pair) (term : Bytes) (old new : Gathering) (result : Result (Unit {0}) E) → is_short term ≡ false → OnOk result (new ≡ record old { postings = inserted posting_cmp (posting_of [] Spill pair) old.postings })
+    → OnOk result (new ≡ record old { postings = with_postings old.postings (postings_of pair (term ∷ [])) })
+unfolding alone
+long_added pair term old new result long added =
+    subst (λ (l : List Posting). OnOk result (new ≡ record old { postings = with_postings old.postings l })) (sym (alone_is pair term ∙ ap (λ (b : Bool). alone b pair term) long)) added

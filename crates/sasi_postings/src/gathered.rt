@@ -1,5 +1,5 @@
 // Adds the postings of a cell to a gathering.
-ghost use Rattle.std.specs.Prelude.{◌≡◌, ◌≤◌, length, map, not, Err, IfOk, IfSome, OnOk};
+ghost use Rattle.std.specs.Prelude.{◌≡◌, ◌≤◌, ◌∷◌, [], length, map, not, Err, IfOk, IfSome, OnOk};
 ghost use Rattle.std.specs.List.{AllByRecursion, filter, list_any};
 ghost use Rattle.std.specs.Option.{option_copied};
 ghost use Rattle.sasi_types.specs.declared.class.Class.{Class};
@@ -48,6 +48,10 @@ fn add_terms(
 ) -> Result<(), AllocError>
     ensures { OnOk result (gather.new ≡ record gather.old { postings = with_postings gather.old.postings (postings_of pair terms.now) }) }
 {
+    // As of most values: no list is needed.
+    if let [term] = terms {
+        return add_term(gather, term, pair);
+    }
     let short = short_terms(alloc, terms)?;
     add_stored(gather, &short, pair)?;
     add_spilled(gather, terms, pair)
@@ -58,6 +62,17 @@ fn is_short(term: &Term) -> bool
     ensures { result ≡ is_short term.now }
 {
     term.bytes().len() <= LONGEST_TERM
+}
+
+// Adds the posting of the only term of a value.
+fn add_term(gather: &mut Gather, term: &Term, pair: Pair) -> Result<(), AllocError>
+    ensures { OnOk result (gather.new ≡ record gather.old { postings = with_postings gather.old.postings (postings_of pair (term.now ∷ [])) }) }
+{
+    if is_short(term) {
+        gather.add(term.bytes(), ListKind::Stored, pair)
+    } else {
+        gather.add(&[], ListKind::Spill, pair)
+    }
 }
 
 // The terms that can be stored, in their order and each once.

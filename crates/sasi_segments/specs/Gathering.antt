@@ -17,7 +17,7 @@ pub record Gathering : Type 0 where
 
 -- a posting whose term begins there and has so many bytes
 abbrev pub gathered : ℕ → ℕ → ListKind → Pair → GatheredPosting
-gathered start len list pair = record { pair = pair; start = start; length = len; list = list }
+gathered start len list pair = record { pair = pair; prefix = 0; start = start; length = len; list = list }
 
 -- the bytes of its term among those of all terms
 abbrev pub term_at : List ℕ → GatheredPosting → List ℕ

@@ -1,3 +1,4 @@
 pub mod Sorting
 pub mod Postings
 pub mod Gathering
+pub mod Prefixes
