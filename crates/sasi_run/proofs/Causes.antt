@@ -33,7 +33,7 @@ use Rattle.sasi_run.proofs.Complete.{through}
 use Rattle.sasi_run.proofs.CountedEmits.{counts_opened, counts_unopened, counts_unused}
 use Rattle.sasi_run.proofs.FailedCalls.{damage_same, nothing_failed, rose, unfailed_calls}
 use Rattle.sasi_run.proofs.RunParts.{unmoved}
-use Rattle.sasi_run.proofs.WholeRun.{first_runs, no_tables}
+use Rattle.sasi_run.proofs.WholeRun.{first_runs, no_tables, shape_order}
 
 -- ---- the words name no script
 
@@ -44,7 +44,7 @@ pub causes_unused : (words : List (List ℕ)) (kinds : List Class) (script : Sou
 causes_unused words kinds script a none = record {
   usage = (λ is. none, λ no. refl);
   calls = unfailed_calls Usage script script a a (λ is. cc) (λ is. cc) (λ is. cc) (nothing_failed script a);
-  counts = λ folder l files shape. counts_unused folder l script a;
+  counts = λ folder l files shape. counts_unused folder l script a (shape_order (asked_by words) folder l shape);
   damaged = λ damage is. cc;
   undamaged = λ folder l damage files shape is. cc;
   refused = λ folder files no. record { refusal = tt; unread = refl; silent = refl; kept = λ number sealed. keeps_all a folder number; foreign = λ foreign. stays a };
@@ -159,7 +159,7 @@ module _ (T : Type 0) (words : List (List ℕ)) (kinds : List Class) (script : S
   causes_unopened fault failed = record {
     usage = (λ is. absurd (not_usage fault is), λ no. absurd (no are));
     calls = failed.calls;
-    counts = λ folder l files shape. counts_unopened folder fault l script a b (unmoved a b failed.silent) failed.none_out (failed.lacks_only folder files);
+    counts = λ folder l files shape. counts_unopened folder fault l script a b (shape_order (asked_by words) folder l shape) (unmoved a b failed.silent) failed.none_out (failed.lacks_only folder files);
     damaged = λ damage is. inl (damaged fault failed damage is);
     undamaged = λ folder l damage files shape. undamaged fault failed folder l damage files shape;
     refused = λ folder files no. record {
@@ -204,7 +204,7 @@ pub causes_opened : {kinds : List Class} (words : List (List ℕ)) (status : Sta
 causes_opened words status script later a b c store are opened on calls reports of = record {
   usage = (λ is. absurd (of_store_used status of is), λ no. absurd (no are));
   calls = calls;
-  counts = λ folder l files shape. counts_opened folder status l script later a b c opened.silent opened.none_out (on.from (new_world l) (opened.serves folder l files shape));
+  counts = λ folder l files shape. counts_opened folder status l script later a b c (shape_order (asked_by words) folder l shape) opened.silent opened.none_out (on.from (new_world l) (opened.serves folder l files shape));
   damaged = λ damage is. inr (reports damage is);
   undamaged = λ folder l damage files shape. (on.from (new_world l) (opened.serves folder l files shape)).undamaged damage;
   refused = λ folder files no. absurd (no (opened.opens folder files));

@@ -1,4 +1,5 @@
 pub mod ConsumedBytes
+pub mod Joining
 pub mod Worlds
 pub mod RunParts
 pub mod Running
@@ -8,6 +9,7 @@ pub mod Complete
 pub mod ButRows
 pub mod Answering
 pub mod RunsAtEnd
+pub mod SilentPieces
 pub mod Moments
 pub mod Recovering
 pub mod WholeRun

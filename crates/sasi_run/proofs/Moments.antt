@@ -8,7 +8,6 @@ use Rattle.sasi_model.specs.Asked.{Asked, NoChange, Creates, Defines, Writes, Fl
 use Rattle.sasi_model.specs.Parsers.{grammar_parser}
 use Rattle.sasi_model.specs.Pieces.{Piece}
 use Rattle.sasi_model.specs.State.{State}
-use Rattle.sasi_model.specs.Step.{step, state_after, replies}
 use Rattle.sasi_layout.specs.Layout.{Layout, bare, state_of}
 use Rattle.sasi_layout.specs.Moves.{Create, Define, Flush, Freeze, Move, Put, after_moves, moved_state, states}
 use Rattle.sasi_layout.specs.Running as running
@@ -16,35 +15,39 @@ use Rattle.sasi_layout.specs.Running.{IsBusy, IsMoving, IsQuiet, after_pieces, r
 use Rattle.sasi_layout.specs.Shape.{IsOfShape, StandsSealed}
 use Rattle.sasi_layout.specs.Statements.{known_in, moves_asked, moves_of}
 use Rattle.sasi_layout.specs.NumbersInOrder.{HasNumbersInOrder}
-use Rattle.sasi_layout.specs.Worlds.{World, steps}
+use Rattle.sasi_layout.specs.Worlds.{Transitions, steps}
 use Rattle.sasi_layout.proofs.LayoutLaws.{bare_state}
-use Rattle.sasi_layout.proofs.StatementLaws.{front_state_by, step_state}
-use Rattle.sasi_run.proofs.Worlds.{in_order_after, replies_are, state_is}
+use Rattle.sasi_layout.proofs.StatementLaws.{front_state_by, step_in_order}
+use Rattle.sasi_run.proofs.SilentPieces.{silent_piece}
 
--- ---- moments by states
+-- ---- moments by states, of worlds of any kind
+
+-- the state of a world
+abbrev pub state_in : {W : Type 0} → Transitions W → W → State
+state_in t w = state_of (t.layout w)
 
 -- these pieces were answered, and the folder stands for the state after them
-pub record IsBetweenPieces (s : State) (before : List ℕ) (done : List Piece) (folder : Folder) (out : List ℕ) : Type 0 where
-  pub went : out ≡ before ++ replies s done
-  pub stands : StandsSealed folder (state_after s done)
+pub record IsBetweenPieces {W : Type 0} (t : Transitions W) (w : W) (before : List ℕ) (done : List Piece) (folder : Folder) (out : List ℕ) : Type 0 where
+  pub went : out ≡ before ++ replies_of t w done
+  pub stands : StandsSealed folder (state_in t (after_pieces t w done))
 
 -- the next piece is being answered, and the folder stands for the state after it: a first part of its reply was emitted
-pub record IsAnswering (s : State) (before : List ℕ) (done rest : List Piece) (folder : Folder) (out : List ℕ) : Type 0 where
+pub record IsAnswering {W : Type 0} (t : Transitions W) (w : W) (before : List ℕ) (done rest : List Piece) (folder : Folder) (out : List ℕ) : Type 0 where
   pub piece : Piece
   pub others : List Piece
   pub next : rest ≡ piece ∷ others
   pub front : List ℕ
   pub back : List ℕ
-  pub parts : (step (state_after s done) piece).reply ≡ front ++ back
-  pub went : out ≡ before ++ (replies s done ++ front)
-  pub stands : StandsSealed folder (step (state_after s done) piece).state
+  pub parts : t.reply (after_pieces t w done) piece ≡ front ++ back
+  pub went : out ≡ before ++ (replies_of t w done ++ front)
+  pub stands : StandsSealed folder (state_in t (t.after (after_pieces t w done) piece))
 
 -- what a crash leaves while these pieces are run, where this was emitted before
-pub record Crashed (s : State) (before : List ℕ) (pieces : List Piece) (folder : Folder) (out : List ℕ) : Type 0 where
+pub record Crashed {W : Type 0} (t : Transitions W) (w : W) (before : List ℕ) (pieces : List Piece) (folder : Folder) (out : List ℕ) : Type 0 where
   pub done : List Piece
   pub rest : List Piece
   pub parts : pieces ≡ done ++ rest
-  pub stands : IsBetweenPieces s before done folder out ⊎ IsAnswering s before done rest folder out
+  pub stands : IsBetweenPieces t w before done folder out ⊎ IsAnswering t w before done rest folder out
 
 -- ---- the moves of a piece
 
@@ -107,73 +110,89 @@ either l (Writes table key change) done rest parts front whole = first_either l 
 either l (Flushes table) done rest parts front whole = kept_either l _ done rest parts (flush_keeps table _) front
 
 -- so it is with the moves of a piece
-piece_either : (l : Layout) (piece : Piece) (done rest : List Move) → moves_of l piece ≡ done ++ rest → HasNumbersInOrder l → IsEither l (moves_of l piece) done
+pub piece_either : (l : Layout) (piece : Piece) (done rest : List Move) → moves_of l piece ≡ done ++ rest → HasNumbersInOrder l → IsEither l (moves_of l piece) done
 piece_either l piece done rest parts in_order =
     either l (asks (known_in l) piece) done rest parts (front_state_by grammar_parser l piece done rest parts in_order)
     (front_state_by grammar_parser l piece (moves_of l piece) [] (sym (append-nil (moves_of l piece))) in_order)
+
+-- ---- what moments rest on
+
+-- After a first part of the moves of a piece the state is that before the piece, or that after it; and a piece with an empty reply leaves the state.
+pub record StepsByState {W : Type 0} (t : Transitions W) : Type 1 where
+  pub IsValid : W → Type 0
+  pub valid : (w : W) (piece : Piece) → IsValid w → IsValid (t.after w piece)
+  pub either : (w : W) (piece : Piece) (done rest : List Move) → IsValid w → t.moves w piece ≡ done ++ rest → IsEither (t.layout w) (t.moves w piece) done
+  pub silent : (w : W) (piece : Piece) → IsValid w → t.reply w piece ≡ [] → state_in t (t.after w piece) ≡ state_in t w
+
+-- so it is in the worlds of a run
+abbrev pub by_state : StepsByState steps
+by_state = record {
+  IsValid = λ w. HasNumbersInOrder w.layout;
+  valid = step_in_order;
+  either = λ w piece done rest in_order parts. piece_either w.layout piece done rest parts in_order;
+  silent = silent_piece;
+}
 
 -- ---- from layouts to states
 
 of_shape : (l : Layout) (folder : Folder) (s : State) → IsOfShape (bare l) folder → state_of l ≡ s → StandsSealed folder s
 of_shape l folder s shape is = record { shape = bare l; has = shape; state_is = sym (bare_state l ∙ is) }
 
-module _ (w : World) (in_order : HasNumbersInOrder w.layout) (before : List ℕ) (folder : Folder) (out : List ℕ) where
-  between : (done : List Piece) → out ≡ before ++ replies_of steps w done → StandsSealed folder (state_after (state_of w.layout) done)
-      → IsBetweenPieces (state_of w.layout) before done folder out
-  between done went stands = record { went = went ∙ ap (λ (r : List ℕ). before ++ r) (replies_are done w in_order); stands = stands }
+module _ {W : Type 0} (t : Transitions W) (laws : StepsByState t) where
+  pub valid_after : (ps : List Piece) (w : W) → laws.IsValid w → laws.IsValid (after_pieces t w ps)
+  valid_after [] w valid = valid
+  valid_after (p ∷ ps) w valid = valid_after ps (t.after w p) (laws.valid w p valid)
 
-  quiet : (done : List Piece) → IsQuiet (after_pieces steps w done).layout (before ++ replies_of steps w done) folder out
-      → IsBetweenPieces (state_of w.layout) before done folder out
-  quiet done is = between done is.went (of_shape (after_pieces steps w done).layout folder _ is.shape (state_is done w in_order))
+  module _ (w : W) (valid : laws.IsValid w) (before : List ℕ) (folder : Folder) (out : List ℕ) where
+    quiet : (done : List Piece) → IsQuiet (t.layout (after_pieces t w done)) (before ++ replies_of t w done) folder out
+        → IsBetweenPieces t w before done folder out
+    quiet done is = record { went = is.went; stands = of_shape (t.layout (after_pieces t w done)) folder _ is.shape refl }
 
-  module _ (done : List Piece) (piece : Piece) (others rest : List Piece) (next : rest ≡ piece ∷ others) where
-    -- the state after the piece
-    stepped : state_of (steps.after (after_pieces steps w done) piece).layout ≡ (step (state_after (state_of w.layout) done) piece).state
-    stepped = step_state (after_pieces steps w done) piece (in_order_after done w in_order) ∙ ap (λ (s : State). (step s piece).state) (state_is done w in_order)
+    module _ (done : List Piece) (piece : Piece) (others rest : List Piece) (next : rest ≡ piece ∷ others) where
+      answering : (front back : List ℕ) → t.reply (after_pieces t w done) piece ≡ front ++ back → out ≡ (before ++ replies_of t w done) ++ front
+          → IsOfShape (bare (t.layout (t.after (after_pieces t w done) piece))) folder → IsAnswering t w before done rest folder out
+      answering front back parts went shape = record {
+        piece = piece;
+        others = others;
+        next = next;
+        front = front;
+        back = back;
+        parts = parts;
+        went = went ∙ append_assoc before (replies_of t w done) front;
+        stands = of_shape (t.layout (t.after (after_pieces t w done) piece)) folder _ shape refl;
+      }
 
-    answering : (front back : List ℕ) → steps.reply (after_pieces steps w done) piece ≡ front ++ back → out ≡ (before ++ replies_of steps w done) ++ front
-        → IsOfShape (bare (steps.after (after_pieces steps w done) piece).layout) folder → IsAnswering (state_of w.layout) before done rest folder out
-    answering front back parts went shape = record {
-      piece = piece;
-      others = others;
-      next = next;
-      front = front;
-      back = back;
-      parts = subst (λ (s : State). (step s piece).reply ≡ front ++ back) (state_is done w in_order) parts;
-      went = went ∙ append_assoc before (replies_of steps w done) front ∙ ap (λ (r : List ℕ). before ++ (r ++ front)) (replies_are done w in_order);
-      stands = of_shape (steps.after (after_pieces steps w done) piece).layout folder _ shape stepped;
+      moving : IsMoving (t.moves (after_pieces t w done) piece) (t.layout (after_pieces t w done)) (before ++ replies_of t w done) folder out
+          → IsBetweenPieces t w before done folder out ⊎ IsAnswering t w before done rest folder out
+      moving is =
+          let m = after_pieces t w done in
+          let l : Layout = t.layout m in
+          let b = is.between in
+          ⊎_elim
+          (λ early. inl (record { went = is.went; stands = of_shape (after_moves b.done l) folder _ b.shape early }))
+          (λ late. inr (record {
+            piece = piece;
+            others = others;
+            next = next;
+            front = [];
+            back = t.reply m piece;
+            parts = refl;
+            went = is.went ∙ ap (λ (r : List ℕ). before ++ r) (sym (append-nil (replies_of t w done)));
+            stands = of_shape (after_moves b.done l) folder _ b.shape (late ∙ ap state_of (sym (t.layout_is m piece)));
+          }))
+          (laws.either m piece b.done b.rest (valid_after done w valid) b.parts)
+
+    busy : (done rest : List Piece) → IsBusy t (after_pieces t w done) (before ++ replies_of t w done) rest folder out
+        → IsBetweenPieces t w before done folder out ⊎ IsAnswering t w before done rest folder out
+    busy done rest is =
+        ⊎_elim (λ m. moving done is.piece is.others rest is.next m)
+        (λ answered. inr (answering done is.piece is.others rest is.next answered.front answered.back answered.parts answered.went answered.shape)) is.stands
+
+    -- **what a crash leaves, by states**
+    pub by_states : (pieces : List Piece) → running.Crashed t w before pieces folder out → Crashed t w before pieces folder out
+    by_states pieces c = record {
+      done = c.done;
+      rest = c.rest;
+      parts = c.parts;
+      stands = ⊎_elim (λ q. inl (quiet c.done q)) (λ b. busy c.done c.rest b) c.stands;
     }
-
-    moving : IsMoving (steps.moves (after_pieces steps w done) piece) (after_pieces steps w done).layout (before ++ replies_of steps w done) folder out
-        → IsBetweenPieces (state_of w.layout) before done folder out ⊎ IsAnswering (state_of w.layout) before done rest folder out
-    moving is =
-        let l : Layout = (after_pieces steps w done).layout in
-        let b = is.between in
-        ⊎_elim
-        (λ early. inl (between done is.went (of_shape (after_moves b.done l) folder _ b.shape (early ∙ state_is done w in_order))))
-        (λ late. inr (record {
-          piece = piece;
-          others = others;
-          next = next;
-          front = [];
-          back = (step (state_after (state_of w.layout) done) piece).reply;
-          parts = refl;
-          went = is.went ∙ ap (λ (r : List ℕ). before ++ r) (replies_are done w in_order ∙ sym (append-nil (replies (state_of w.layout) done)));
-          stands = of_shape (after_moves b.done l) folder _ b.shape (late ∙ stepped);
-        }))
-        (piece_either l piece b.done b.rest b.parts (in_order_after done w in_order))
-
-  busy : (done rest : List Piece) → IsBusy steps (after_pieces steps w done) (before ++ replies_of steps w done) rest folder out
-      → IsBetweenPieces (state_of w.layout) before done folder out ⊎ IsAnswering (state_of w.layout) before done rest folder out
-  busy done rest is =
-      ⊎_elim (λ m. moving done is.piece is.others rest is.next m)
-      (λ answered. inr (answering done is.piece is.others rest is.next answered.front answered.back answered.parts answered.went answered.shape)) is.stands
-
-  -- **what a crash leaves, by states**
-  pub by_states : (pieces : List Piece) → running.Crashed steps w before pieces folder out → Crashed (state_of w.layout) before pieces folder out
-  by_states pieces c = record {
-    done = c.done;
-    rest = c.rest;
-    parts = c.parts;
-    stands = ⊎_elim (λ q. inl (quiet c.done q)) (λ b. busy c.done c.rest b) c.stands;
-  }

@@ -1,29 +1,28 @@
 -- What a run has shown where it stops, and which pieces were read until then. `from` is the session at the script's start, and `mid`
 -- where it stands before the last read.
-use Rattle.std.proofs.Common.{◌≡◌, ℕ, ◌+◌, ◌≤◌, List, [], ◌∷◌, ◌++◌, length, Option, None, Some, refl, sym, ap, ◌∙◌, subst, append_assoc}
+use Rattle.std.proofs.Common.{◌≡◌, ℕ, ◌+◌, ◌≤◌, List, [], ◌∷◌, ◌++◌, length, take, Option, None, Some, refl, sym, ap, ◌∙◌, subst, append_assoc}
+use Rattle.std.specs.List.{concat}
 use Rattle.std.proofs.lemmas.List.{append-nil}
 use Rattle.std.specs.Io.KnownBytes.{Consumes, IsAtEnd}
 use Rattle.sasi_types.specs.declared.class.Class.{Class}
 use Rattle.sasi_host.specs.View.{View}
 use Rattle.sasi_layout.specs.Layout.{state_of}
 use Rattle.sasi_layout.specs.Running.{replies_of}
-use Rattle.sasi_layout.specs.NumbersInOrder.{HasNumbersInOrder}
 use Rattle.sasi_layout.specs.Worlds.{World, steps}
 use Rattle.sasi_model.specs.Pieces.{Piece, Pieces, pieces, all_pieces}
-use Rattle.sasi_model.specs.Parsers.{grammar_parser}
-use Rattle.sasi_model.specs.State.{State}
-use Rattle.sasi_model.specs.Step.{step}
 use Rattle.sasi_cql.specs.SplitterState.{resume, behind}
 use Rattle.sasi_cql.proofs.Resumed.{resume_nothing}
 use Rattle.sasi_run.specs.Crashing.{CrashLeavesPieces, RunsWorld, StoppedPieces}
 use Rattle.sasi_run.specs.EmitCounts.{MakesEmits, emits_for, emits_in}
-use Rattle.sasi_run.specs.Headline.{EmitsCutReply, EmitsFirstReplies, IsFirstPart, SCRIPT_MOST, READ_MOST, exact, script_of, status_of_stop}
+use Rattle.sasi_run.specs.Headline.{EmitsCutReply, EmitsFirstReplies, IsFirstPart, SCRIPT_MOST, READ_MOST, first_of, script_of, status_of_stop}
 use Rattle.sasi_run.specs.Session.{Feeds, IsAtScriptStart}
+use Rattle.sasi_run.specs.Shapes.{answers_of}
 use Rattle.sasi_run.specs.declared.session.Session.{Session}
 use Rattle.sasi_run.specs.declared.session.Stop.{Stop}
 use Rattle.sasi_run.specs.declared.session.Stop.TheVariants.{Disk, Output, Memory, Corrupt, Spent, Missing}
+use Rattle.sasi_run.proofs.Joining.{first_shown, next_answer}
 use Rattle.sasi_run.proofs.Running.{leaves_more}
-use Rattle.sasi_run.proofs.Worlds.{emits_are, replies_are, state_is}
+use Rattle.sasi_run.proofs.Worlds.{first_emits}
 
 -- ---- the pieces of what was read
 
@@ -91,21 +90,34 @@ without_next script read done next first = record {
   has = first.has;
 }
 
-module _ (w : World) (in_order : HasNumbersInOrder w.layout) (read : List ℕ) (done next : List Piece) (l l2 : Option (List ℕ)) (a c : View) (consumed : Consumes l l2 read)
+module _ (w : World) (read : List ℕ) (done next : List Piece) (l l2 : Option (List ℕ)) (a c : View) (consumed : Consumes l l2 read)
     (bounded : length read ≤ SCRIPT_MOST + READ_MOST) (first : IsFirstPart (script_of l read) read done next) where
-  abbrev first_replies : EmitsFirstReplies (exact grammar_parser) (state_of w.layout) (script_of l read) read (replies_of steps w done)
-  first_replies = record { done = done; first = without_next (script_of l read) read done next first; replied = replies_are done w in_order }
+  -- the replies to all pieces of the script
+  abbrev all_answers : List (List ℕ)
+  all_answers = answers_of steps w (all_pieces (script_of l read))
+
+  parts_are : all_pieces (script_of l read) ≡ done ++ (next ++ first.rest)
+  parts_are = first.parts ∙ append_assoc done next first.rest
+
+  shown_is : replies_of steps w done ≡ concat (take (length done) all_answers)
+  shown_is = first_shown steps w done (next ++ first.rest) (all_pieces (script_of l read)) parts_are
+
+  abbrev first_replies : EmitsFirstReplies (first_of all_answers) (state_of w.layout) (script_of l read) read (replies_of steps w done)
+  first_replies = record { done = done; first = without_next (script_of l read) read done next first; replied = shown_is }
 
   crashes : CrashLeavesPieces a c w (done ++ next) → CrashLeavesPieces a c w (all_pieces (script_of l read))
   crashes leaves = widened a c w (done ++ next) first.rest (all_pieces (script_of l read)) first.parts leaves
 
-  makes : (others : ℕ) → MakesEmits (emits_in w done + others) a.emits c.emits → MakesEmits (emits_for (state_of w.layout) done + others) a.emits c.emits
-  makes others counted = subst (λ (n : ℕ). MakesEmits (n + others) a.emits c.emits) (emits_are done w in_order) counted
+  makes : (others : ℕ) → MakesEmits (emits_in w done + others) a.emits c.emits → MakesEmits (emits_for (take (length done) all_answers) + others) a.emits c.emits
+  makes others counted = subst (λ (n : ℕ). MakesEmits (n + others) a.emits c.emits)
+      (first_emits w done (next ++ first.rest) (all_pieces (script_of l read)) parts_are) counted
 
   -- from a world
   pub stops_world : {kinds : List Class} (stop : Stop) → StoppedPieces kinds stop w done next a c → RunsWorld kinds (status_of_stop stop) w l l2 a c
   stops_world Memory stopped = record {
+    answers = all_answers;
     runs = record { read = read; shown = replies_of steps w done; consumed = consumed; emitted = stopped.shown; at_end = tt; shows = first_replies; bounded = bounded };
+    replied = refl;
     crashes = crashes stopped.crashes;
     told = λ is. absurd is;
     ends = λ is. absurd is;
@@ -114,7 +126,9 @@ module _ (w : World) (in_order : HasNumbersInOrder w.layout) (read : List ℕ) (
     undamaged = λ damage is. cc;
   }
   stops_world Disk stopped = record {
+    answers = all_answers;
     runs = record { read = read; shown = replies_of steps w done; consumed = consumed; emitted = stopped.shown; at_end = tt; shows = first_replies; bounded = bounded };
+    replied = refl;
     crashes = crashes stopped.crashes;
     told = λ is. absurd is;
     ends = λ is. absurd is;
@@ -127,21 +141,23 @@ module _ (w : World) (in_order : HasNumbersInOrder w.layout) (read : List ℕ) (
       let at = stopped.shown in
       let here : IsFirstPart (script_of l read) read done (at.0 ∷ []) = subst (λ (ps : List Piece). IsFirstPart (script_of l read) read done ps) at.1 first in
       record {
+        answers = all_answers;
         runs = record {
           read = read;
           shown = replies_of steps w done;
           consumed = consumed;
           emitted = at.2;
           at_end = tt;
-          shows = record { done = done; piece = at.0; first = here; replied = replies_are done w in_order };
+          shows = record { done = done; piece = at.0; first = here; replied = shown_is };
           bounded = bounded;
         };
+        replied = refl;
         crashes = crashes stopped.crashes;
         told = λ is. absurd is;
         ends = λ is. absurd is;
         emits = record {
           answered = done;
-          by_status = (record { done = done; piece = at.0; first = here; replied = replies_are done w in_order }, refl);
+          by_status = (record { done = done; piece = at.0; first = here; replied = shown_is }, refl);
           emits = makes 0 stopped.emits;
         };
         needs = record { done = done; piece = at.0; first = here; replied = refl; analyzer = at.3; spends = at.4; earlier = stopped.supplied };
@@ -151,7 +167,9 @@ module _ (w : World) (in_order : HasNumbersInOrder w.layout) (read : List ℕ) (
       let at = stopped.shown in
       let here : IsFirstPart (script_of l read) read done (at.0 ∷ []) = subst (λ (ps : List Piece). IsFirstPart (script_of l read) read done ps) at.1 first in
       record {
+        answers = all_answers;
         runs = record { read = read; shown = replies_of steps w done; consumed = consumed; emitted = at.2; at_end = tt; shows = first_replies; bounded = bounded };
+        replied = refl;
         crashes = crashes stopped.crashes;
         told = λ is. absurd is;
         ends = λ is. absurd is;
@@ -162,19 +180,19 @@ module _ (w : World) (in_order : HasNumbersInOrder w.layout) (read : List ℕ) (
   stops_world Output stopped =
       let at = stopped.shown in
       let here : IsFirstPart (script_of l read) read done (at.0 ∷ []) = subst (λ (ps : List Piece). IsFirstPart (script_of l read) read done ps) at.3 first in
-      let reply = subst (λ (t : State). (step t at.0).reply ≡ at.1 ++ at.2) (state_is done w in_order) at.4 in
-      let cut : EmitsCutReply grammar_parser (exact grammar_parser) (state_of w.layout) (script_of l read) read (replies_of steps w done ++ at.1) = record {
+      let cut : EmitsCutReply (first_of all_answers) (state_of w.layout) (script_of l read) read (replies_of steps w done ++ at.1) = record {
         done = done;
         piece = at.0;
         first = here;
         whole = replies_of steps w done;
         front = at.1;
         back = at.2;
-        replied = replies_are done w in_order;
-        reply = sym reply;
+        replied = shown_is;
+        reply = next_answer steps w done (next ++ first.rest) (all_pieces (script_of l read)) parts_are at.0 first.rest (ap (λ (ps : List Piece). ps ++ first.rest) at.3) ∙ at.4;
         parts = refl;
       } in
       record {
+        answers = all_answers;
         runs = record {
           read = read;
           shown = replies_of steps w done ++ at.1;
@@ -184,6 +202,7 @@ module _ (w : World) (in_order : HasNumbersInOrder w.layout) (read : List ℕ) (
           shows = cut;
           bounded = bounded;
         };
+        replied = refl;
         crashes = crashes stopped.crashes;
         told = λ is. absurd is;
         ends = λ is. absurd is;

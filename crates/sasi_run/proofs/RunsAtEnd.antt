@@ -1,6 +1,7 @@
 -- What a run promises at each of its ends. `from` is the session at the script's start, and `mid` where it stands before the last
 -- read; `on` tells what was read and run until then.
 use Rattle.std.proofs.Common.{◌≡◌, ◌≢◌, ℕ, ◌+◌, ◌≤◌, ◌<◌, ◌^◌, Bool, true, false, cond, nat_eq, List, [], ◌++◌, length, take, drop, Option, Err, IsErrOf, refl, sym, ap, ◌∙◌, subst, inl, inr, arith, append_assoc, length-append, length-drop}
+use Rattle.std.specs.List.{concat}
 use Rattle.std.proofs.lemmas.List.{append-nil, length-take-le, take-append-drop, take_all}
 use Rattle.std.proofs.Math.Seq.{take-append_seam}
 use Rattle.std.specs.Io.KnownBytes.{Appends, Consumes, IsAtEnd, Keeps}
@@ -17,15 +18,16 @@ use Rattle.sasi_layout.specs.Worlds.{ServesWorld, World, steps}
 use Rattle.sasi_model.specs.Pieces.{Piece, pieces, all_pieces}
 use Rattle.sasi_model.specs.Parsers.{grammar_parser}
 use Rattle.sasi_model.specs.State.{State}
-use Rattle.sasi_model.specs.Step.{refusals, replies, state_after}
+use Rattle.sasi_model.specs.Step.{refusals, state_after}
 use Rattle.sasi_cql.specs.SplitterState.{resume, behind}
 use Rattle.sasi_store.specs.StoreView.{IsReady}
 use Rattle.sasi_run.specs.Causes.{IsOfStore}
 use Rattle.sasi_run.specs.Crashing.{CrashLeavesPieces, EndsAtRead, FailsCrashSafe, FeedsCrashSafe, FeedsRead, FinishesCrashSafe, IsOfState, LacksAtStop, RanButRows, RanPieces, RanScript, ReadsCrashSafe, RunsCrashSafe, StoppedButRows, StoppedPieces, StopsCrashSafe, StopsWith}
 use Rattle.sasi_run.specs.EmitCounts.{MakesEmits, emits_for, emits_in}
-use Rattle.sasi_run.specs.Headline.{AreRepliesButRows, EmitsAllReplies, EmitsByStatus, IsFirstPart, READ_MOST, ReadsToEnd, Runs, SCRIPT_MOST, but_rows, exact, script_of, status_of_count, status_of_stop}
+use Rattle.sasi_run.specs.Headline.{AreRepliesButRows, EmitsAllReplies, EmitsByStatus, IsFirstPart, READ_MOST, ReadsToEnd, Runs, SCRIPT_MOST, but_rows, first_of, script_of, status_of_count, status_of_stop}
 use Rattle.sasi_run.specs.Session.{IsAtScriptStart, refusals_of}
 use Rattle.sasi_run.specs.Needs.{AreSupplied}
+use Rattle.sasi_run.specs.Shapes.{answers_of}
 use Rattle.sasi_run.specs.declared.session.Session.{Session}
 use Rattle.sasi_run.specs.declared.session.Stop.{Stop}
 use Rattle.sasi_run.specs.declared.session.Stop.TheVariants.{Disk, Output, Memory, Corrupt, Spent, Missing}
@@ -35,10 +37,11 @@ use Rattle.sasi_run.proofs.Answering.{feeds_both, feeds_nothing}
 use Rattle.sasi_run.proofs.ButRows.{ran_both_but, stop_runs, stopped_behind_but}
 use Rattle.sasi_run.proofs.ConsumedBytes.{consumes_both, consumes_kept, consumes_none, consumes_nothing}
 use Rattle.sasi_run.proofs.EmitLaws.{makes_alone}
+use Rattle.sasi_run.proofs.Joining.{first_shown}
 use Rattle.sasi_run.proofs.RepliesAtEnd.{all_behind, all_now, answered_first, behind_twice, pieces_on, script_parts, script_whole, stops_world, whole_now, widened}
 use Rattle.sasi_run.proofs.Running.{leaves_closed}
 use Rattle.sasi_run.proofs.RunParts.{ran_both, stopped_behind}
-use Rattle.sasi_run.proofs.Worlds.{emits_are, refusals_are, replies_are}
+use Rattle.sasi_run.proofs.Worlds.{first_emits, refusals_are}
 
 -- no analyzer is of the class that stopped the run
 stop_lacks : (kinds : List Class) (stop : Stop) → LacksAtStop kinds stop → (class : Class) → status_of_stop stop ≡ AnalyzerMissing class → has_class class kinds ≡ false
@@ -72,23 +75,30 @@ ends_fault from mid l l1 l2 a b n fresh on few kept =
           };
       from = λ w serves.
           (let ran = on.feeds.ran w serves in
+          let all = all_pieces (script_of l on.read) in
           record {
+            answers = answers_of steps w all;
             runs = record {
               read = on.read;
               shown = replies_of steps w t.done;
               consumed = consumed;
               emitted = ran.shown;
               at_end = tt;
-              shows = record { whole = replies_are t.done w serves.in_order ∙ ap (replies (state_of w.layout)) (sym (whole_now from mid on.read fresh t)); short = size };
+              shows = record {
+                whole = first_shown steps w t.done first.0 all first.1
+                    ∙ ap (λ (ps : List Piece). concat (take (length ps) (answers_of steps w all))) (sym (whole_now from mid on.read fresh t));
+                short = size;
+              };
               bounded = omega (arith, size);
             };
+            replied = refl;
             crashes = widened a b w t.done first.0 (all_pieces (script_of l on.read)) first.1 ran.crashes;
             told = λ is. absurd is;
             ends = λ is. absurd is;
             emits = record {
               answered = t.done;
               by_status = sym (whole_now from mid on.read fresh t);
-              emits = makes_alone _ a.emits b.emits (subst (λ (k : ℕ). MakesEmits k a.emits b.emits) (emits_are t.done w serves.in_order) ran.emits);
+              emits = makes_alone _ a.emits b.emits (subst (λ (k : ℕ). MakesEmits k a.emits b.emits) (first_emits w t.done first.0 all first.1) ran.emits);
             };
             needs = tt;
             undamaged = λ damage is. cc;
@@ -137,15 +147,23 @@ module _ {kinds : List Class} (from to : Session) (l l2 : Option (List ℕ)) (a 
     emits_in_all : MakesEmits (emits_in w (all_pieces on.read)) a.emits c.emits
     emits_in_all = subst (λ (k : ℕ). MakesEmits (emits_in w (all_pieces on.read)) a.emits k) (sym none_out) (on.ran w serves).emits
 
-    emits_all : MakesEmits (emits_for (state_of w.layout) (all_pieces on.read) + 0) a.emits c.emits
-    emits_all = makes_alone _ a.emits c.emits (subst (λ (k : ℕ). MakesEmits k a.emits c.emits) (emits_are (all_pieces on.read) w serves.in_order) emits_in_all)
+    -- the replies to all pieces of the script
+    abbrev all_answers : List (List ℕ)
+    all_answers = answers_of steps w (all_pieces (script_of l on.read))
 
-    all_shown : (n : ℕ) → to.refused ≡ n → EmitsAllReplies grammar_parser (exact grammar_parser) (state_of w.layout) on.read (replies_of steps w (all_pieces on.read)) n
+    all_read_are : all_pieces (script_of l on.read) ≡ all_pieces on.read ++ []
+    all_read_are = ap all_pieces (script_whole l l2 on.read on.consumed on.at_end) ∙ sym (append-nil (all_pieces on.read))
+
+    emits_all : MakesEmits (emits_for (take (length (all_pieces on.read)) all_answers) + 0) a.emits c.emits
+    emits_all = makes_alone _ a.emits c.emits
+        (subst (λ (k : ℕ). MakesEmits k a.emits c.emits) (first_emits w (all_pieces on.read) [] (all_pieces (script_of l on.read)) all_read_are) emits_in_all)
+
+    all_shown : (n : ℕ) → to.refused ≡ n → EmitsAllReplies grammar_parser (first_of all_answers) (state_of w.layout) on.read (replies_of steps w (all_pieces on.read)) n
     all_shown n is =
         let count : to.refused ≡ counted_by from.refused (refusals_of w (all_pieces on.read)) = (on.ran w serves).count in
         let by_model : refusals_of w (all_pieces on.read) ≡ refusals (state_of w.layout) (all_pieces on.read) = refusals_are (all_pieces on.read) w serves.in_order in
         record {
-          all = replies_are (all_pieces on.read) w serves.in_order;
+          all = first_shown steps w (all_pieces on.read) [] (all_pieces (script_of l on.read)) all_read_are;
           count = omega (arith, is, count, by_model, fresh.count);
           short = on.short;
         }
@@ -179,6 +197,7 @@ module _ {kinds : List Class} (from to : Session) (l l2 : Option (List ℕ)) (a 
           from = λ w serves.
               (let ran = on.ran w serves in
               record {
+                answers = all_answers w serves;
                 runs = record {
                   read = on.read;
                   shown = replies_of steps w (all_pieces on.read);
@@ -188,6 +207,7 @@ module _ {kinds : List Class} (from to : Session) (l l2 : Option (List ℕ)) (a 
                   shows = all_shown w serves 0 zero_is;
                   bounded = omega (arith, on.short);
                 };
+                replied = refl;
                 crashes = of_script (λ ps. CrashLeavesPieces a c w ps) (crashes w serves);
                 told = λ _. told_after _ b c (moments (after_pieces steps w (all_pieces on.read)) ran.serves) ran.serves.told;
                 ends = λ _. of_script (λ ps. Ended c (closed (after_pieces steps w ps).layout)) (ends (after_pieces steps w (all_pieces on.read)) ran.serves);
@@ -204,6 +224,7 @@ module _ {kinds : List Class} (from to : Session) (l l2 : Option (List ℕ)) (a 
           from = λ w serves.
               (let ran = on.ran w serves in
               record {
+                answers = all_answers w serves;
                 runs = record {
                   read = on.read;
                   shown = replies_of steps w (all_pieces on.read);
@@ -213,6 +234,7 @@ module _ {kinds : List Class} (from to : Session) (l l2 : Option (List ℕ)) (a 
                   shows = (some, all_shown w serves to.refused refl);
                   bounded = omega (arith, on.short);
                 };
+                replied = refl;
                 crashes = of_script (λ ps. CrashLeavesPieces a c w ps) (crashes w serves);
                 told = λ _. told_after _ b c (moments (after_pieces steps w (all_pieces on.read)) ran.serves) ran.serves.told;
                 ends = λ _. of_script (λ ps. Ended c (closed (after_pieces steps w ps).layout)) (ends (after_pieces steps w (all_pieces on.read)) ran.serves);
@@ -234,7 +256,7 @@ module _ {kinds : List Class} (from to : Session) (l l2 : Option (List ℕ)) (a 
         stop_runs Disk s on.read l l2 a c (all_pieces on.read) [] on.consumed (omega (arith, on.short)) first (record { shown = ran.shown; emitted = appends_on ran.shown ran.emitted; replies = ran.replies });
     from = λ w serves.
         (let ran = on.ran w serves in
-        stops_world w serves.in_order on.read (all_pieces on.read) [] l l2 a c on.consumed (omega (arith, on.short)) first Disk
+        stops_world w on.read (all_pieces on.read) [] l l2 a c on.consumed (omega (arith, on.short)) first Disk
         (record {
           shown = appends_on _ ran.shown;
           crashes = subst (λ (ps : List Piece). CrashLeavesPieces a c w ps) (sym (append-nil (all_pieces on.read))) (crashes w serves);
@@ -292,7 +314,7 @@ ends_last stop from mid l l1 l2 a b c n none fresh on few ate empty end fails =
           (stopped_behind_but stop s t.done [] last from mid a b c ran (fails.anywhere (state_after s t.done) ran.state)));
       from = λ w serves.
           (let ran = on.feeds.ran w serves in
-          stops_world w serves.in_order on.read t.done last l l2 a c consumed bounded first stop
+          stops_world w on.read t.done last l l2 a c consumed bounded first stop
           (subst (λ (ps : List Piece). StoppedPieces _ stop w ps last a c) (append-nil t.done)
           (stopped_behind stop w t.done [] last from mid a b c ran (fails.stopped (after_pieces steps w t.done) ran.serves))));
       lacks = stop_lacks _ stop fails.lacks;
@@ -330,23 +352,29 @@ ends_long from mid to l l1 l2 a b c n chunk part rest fresh on few ate small par
           };
       from = λ w serves.
           (let ran = t.ran w serves in
+          let all = all_pieces (script_of l read) in
           record {
+            answers = answers_of steps w all;
             runs = record {
               read = read;
               shown = replies_of steps w t.feeds.done;
               consumed = consumed;
               emitted = ran.shown;
               at_end = tt;
-              shows = record { whole = replies_are t.feeds.done w serves.in_order ∙ ap (replies (state_of w.layout)) (sym whole); long = long };
+              shows = record {
+                whole = first_shown steps w t.feeds.done _ all cut ∙ ap (λ (ps : List Piece). concat (take (length ps) (answers_of steps w all))) (sym whole);
+                long = long;
+              };
               bounded = bounded;
             };
+            replied = refl;
             crashes = widened a c w t.feeds.done _ _ cut ran.crashes;
             told = λ is. absurd is;
             ends = λ is. absurd is;
             emits = record {
               answered = t.feeds.done;
               by_status = sym whole;
-              emits = makes_alone _ a.emits c.emits (subst (λ (k : ℕ). MakesEmits k a.emits c.emits) (emits_are t.feeds.done w serves.in_order) ran.emits);
+              emits = makes_alone _ a.emits c.emits (subst (λ (k : ℕ). MakesEmits k a.emits c.emits) (first_emits w t.feeds.done _ all cut) ran.emits);
             };
             needs = tt;
             undamaged = λ damage is. cc;
@@ -386,7 +414,7 @@ ends_within stop from mid l l1 l2 a b c n chunk part rest fresh on few ate small
           (stopped_behind_but stop s t.done u.stops.done u.stops.next from mid a b c ran (u.anywhere (state_after s t.done) ran.state));
       from = λ w serves.
           (let ran = on.feeds.ran w serves in
-          stops_world w serves.in_order read (t.done ++ u.stops.done) u.stops.next l l2 a c consumed bounded first stop
+          stops_world w read (t.done ++ u.stops.done) u.stops.next l l2 a c consumed bounded first stop
           (stopped_behind stop w t.done u.stops.done u.stops.next from mid a b c ran (u.stopped (after_pieces steps w t.done) ran.serves)));
       lacks = stop_lacks _ stop u.lacks;
     }

@@ -1,5 +1,5 @@
 -- What a crash leaves of a whole run, from its folder's opening on.
-use Rattle.std.proofs.Common.{◌≡◌, ◌⊎◌, ℕ, List, [], ◌++◌, Option, Some, refl, sym, ◌∙◌, subst, inl, inr, ⊎_elim, arith}
+use Rattle.std.proofs.Common.{◌≡◌, ◌⊎◌, ℕ, suc, List, [], ◌++◌, take, Option, Some, refl, sym, ◌∙◌, subst, inl, inr, ⊎_elim, arith}
 use Rattle.std.proofs.lemmas.List.{append-nil}
 use Rattle.std.specs.Io.KnownBytes.{Appends}
 use Rattle.sasi_types.specs.declared.class.Class.{Class}
@@ -10,8 +10,8 @@ use Rattle.sasi_host.specs.View.{IsSound, IsTold, LeavesNow, SourceView, View}
 use Rattle.sasi_host.specs.Disk.{Changes, FromImage, Same}
 use Rattle.sasi_host.proofs.ContentLaws.{told_files}
 use Rattle.sasi_host.proofs.ChangeLaws.{changes_as, crash_leaves_on, since_start, stays}
-use Rattle.sasi_layout.specs.Layout.{Layout, state_of}
-use Rattle.sasi_layout.specs.Running.{Crashed, after_pieces}
+use Rattle.sasi_layout.specs.Layout.{Layout, listing_of, state_of}
+use Rattle.sasi_layout.specs.Running.{Crashed, after_pieces, replies_of}
 use Rattle.sasi_layout.specs.Serving.{Ended, closed}
 use Rattle.sasi_layout.specs.Shape.{ShapeOf, Stands}
 use Rattle.sasi_layout.specs.NumbersInOrder.{HasNumbersInOrder}
@@ -20,28 +20,35 @@ use Rattle.sasi_layout.proofs.LayoutLaws.{bare_state}
 use Rattle.sasi_model.specs.Pieces.{Piece, all_pieces}
 use Rattle.sasi_model.specs.State.{State}
 use Rattle.sasi_model.specs.Parsers.{grammar_parser}
-use Rattle.sasi_model.specs.Step.{replies, state_after}
+use Rattle.sasi_model.specs.Step.{state_after}
 use Rattle.sasi_cql.proofs.Parsing.{is_parser}
+use Rattle.sasi_manifest.proofs.Consistency.{manifest_consistent}
+use Rattle.sasi_recover.proofs.OpenedStore.{shape_in_order}
 use Rattle.sasi_recover.specs.declared.fault.OpenFault.{OpenFault}
 use Rattle.sasi_recover.specs.declared.fault.OpenFault.TheVariants as open_fault
 use Rattle.sasi_store.specs.StoreView.{StoreView}
 use Rattle.sasi_run.specs.Crashing.{CrashLeavesPieces, IsOfState, RunsCrashSafe, RunsWorld}
-use Rattle.sasi_run.specs.Headline.{EmitsByStatus, EmitsFirstReplies, EndsWith, Headline, RanToEnd, ReadsToEnd, Replies, Runs, RunsFrom, StartsFrom, but_rows, exact, script_of, status_of_fault}
-use Rattle.sasi_run.specs.Recovering.{Recovers}
-use Rattle.sasi_run.specs.Shapes.{HasShapeOfImage, LeavesShape, Shapes, StandsForEnd, StartsFromLayout}
+use Rattle.sasi_run.specs.Headline.{AreReplies, EmitsByStatus, EmitsFirstReplies, EndsWith, Headline, RanToEnd, ReadsToEnd, Replies, Runs, RunsAsModel, RunsFrom, StartsFrom, but_rows, first_of, script_of, status_of_fault}
+use Rattle.sasi_run.specs.Recovering.{IsStateAfter, Recovers}
+use Rattle.sasi_run.specs.Shapes.{answers_of, HasShapeOfImage, LeavesShape, Shapes, StandsForEnd, StartsFromLayout}
 use Rattle.sasi_run.specs.declared.status.Status.{Status}
 use Rattle.sasi_run.specs.declared.status.Status.TheVariants.{Usage}
 use Rattle.sasi_run.proofs.ConsumedBytes.{consumes_nothing}
 use Rattle.sasi_run.proofs.Moments as moments
-use Rattle.sasi_run.proofs.Moments.{by_states}
-use Rattle.sasi_run.proofs.Recovering.{after_crash, counted, nothing_shown}
+use Rattle.sasi_run.proofs.Moments.{by_state, by_states}
+use Rattle.sasi_run.proofs.Recovering.{IsStateIn, after_crash, counted, nothing_shown}
 use Rattle.sasi_run.proofs.Running.{one_of}
 use Rattle.sasi_run.proofs.RunParts.{appends_none}
-use Rattle.sasi_run.proofs.Worlds.{state_is}
+use Rattle.sasi_run.proofs.Worlds.{answers_are, state_is}
 
 -- the folder is as it was, or has the shape of the layout
 abbrev pub UnchangedOrShaped : Option Partitioner → Layout → Folder → Folder → Type 0
 UnchangedOrShaped asked l x y = (y ≡ x) ⊎ ShapeOf asked y l
+
+-- the numbers of a layout whose shape a folder has are in order
+pub shape_order : (asked : Option Partitioner) (folder : Folder) (l : Layout) → ShapeOf asked folder l → HasNumbersInOrder l
+shape_order asked folder l (inl (fresh, new)) = subst HasNumbersInOrder (sym new) (record { files = tt; indexes = tt })
+shape_order asked folder l (inr (logs, has)) = shape_in_order folder l logs has (manifest_consistent l.used.manifest has.manifest.0 (listing_of l) has.manifest.2)
 
 -- ---- the start, and the opening
 
@@ -81,26 +88,33 @@ module _ (asked : Option Partitioner) (a : View) (l : Layout) (starts : StartsFr
 
     -- ---- by states
 
-    pub recovers_image : (folder : Folder) (out : List ℕ) → HasShapeOfImage asked a before folder out
-        → Recovers Stands grammar_parser asked a (state_of l) pieces before folder out
-    recovers_image folder out is =
-        let n = counted (state_of l) pieces [] in
+    pub recovers_image : (answers : List (List ℕ)) (folder : Folder) (out : List ℕ) → HasShapeOfImage asked a before folder out
+        → Recovers Stands grammar_parser asked a (state_of l) pieces answers before folder out
+    recovers_image answers folder out is =
+        let n = counted answers [] in
         record {
           shown = [];
           went = is.nothing ∙ sym (append-nil before);
           count = n.0;
           whole = n.1;
-          next = nothing_shown (state_of l) pieces n.0 n.1;
+          next = nothing_shown answers n.0 n.1;
           state = state_of is.shape;
           stands = record { shape = is.shape; has = is.has; state_is = refl };
           after = inl (record { nothing = refl; image = is.image; was = is.was; stood = record { shape = is.shape; has = is.had; state_is = refl } });
         }
 
-    from_moment : (folder : Folder) (out shown : List ℕ) → out ≡ before ++ shown → moments.Crashed (state_of l) before pieces folder out
-        → Recovers Stands grammar_parser asked a (state_of l) pieces before folder out
-    from_moment folder out shown went was =
-        let n = counted (state_of l) pieces shown in
-        let after = after_crash (state_of l) before pieces folder out shown went n.0 n.1 was in
+    -- the state is that of the model
+    by_model : HasNumbersInOrder l → (n : ℕ) (s : State) → IsStateIn steps (new_world l) pieces n s → IsStateAfter grammar_parser (state_of l) pieces n s
+    by_model in_order n s is = ⊎_elim
+        (λ here. inl (here ∙ state_is (take n pieces) (new_world l) in_order))
+        (λ later. inr (later.0, later.1 ∙ state_is (take (suc n) pieces) (new_world l) in_order))
+        is
+
+    from_moment : HasNumbersInOrder l → (folder : Folder) (out shown : List ℕ) → out ≡ before ++ shown → moments.Crashed steps (new_world l) before pieces folder out
+        → Recovers Stands grammar_parser asked a (state_of l) pieces (answers_of steps (new_world l) pieces) before folder out
+    from_moment in_order folder out shown went was =
+        let n = counted (answers_of steps (new_world l) pieces) shown in
+        let after = after_crash steps by_state (new_world l) in_order before pieces folder out shown went n.0 n.1 was in
         record {
           shown = shown;
           went = went;
@@ -109,16 +123,16 @@ module _ (asked : Option Partitioner) (a : View) (l : Layout) (starts : StartsFr
           next = after.0;
           state = after.1.0;
           stands = record { shape = after.1.1.shape; has = inr after.1.1.has; state_is = after.1.1.state_is };
-          after = inr after.1.2;
+          after = inr (by_model in_order n.0 after.1.0 after.1.2);
         }
 
     pub recovers : HasNumbersInOrder l → (folder : Folder) (out : List ℕ) → LeavesShape grammar_parser asked a l pieces before folder out
-        → Recovers Stands grammar_parser asked a (state_of l) pieces before folder out
-    recovers in_order folder out left = ⊎_elim (recovers_image folder out)
+        → Recovers Stands grammar_parser asked a (state_of l) pieces (answers_of steps (new_world l) pieces) before folder out
+    recovers in_order folder out left = ⊎_elim (recovers_image (answers_of steps (new_world l) pieces) folder out)
         (λ crashed.
-        (let was = by_states (new_world l) in_order before folder out pieces crashed in
-        ⊎_elim (λ quiet. from_moment folder out (replies (state_of l) was.done) quiet.went was)
-        (λ answering. from_moment folder out (replies (state_of l) was.done ++ answering.front) answering.went was) was.stands))
+        (let was = by_states steps by_state (new_world l) in_order before folder out pieces crashed in
+        ⊎_elim (λ quiet. from_moment in_order folder out (replies_of steps (new_world l) was.done) quiet.went was)
+        (λ answering. from_moment in_order folder out (replies_of steps (new_world l) was.done ++ answering.front) answering.went was) was.stands))
         left
 
 -- ---- the end
@@ -138,25 +152,41 @@ stands_for_end v l s sound told ended is =
 
 -- ---- what a run does
 
+-- the replies from a layout
+pub record RunsByLayout (status : Status) (l : Layout) (left_old left_new out_old out_new : Option (List ℕ)) : Type 0 where
+  pub answers : List (List ℕ)
+  pub runs : Runs grammar_parser (first_of answers) status (state_of l) left_old left_new out_old out_new
+  pub replied : answers ≡ answers_of steps (new_world l) (all_pieces (script_of left_old runs.read))
+
+-- each of them is that of the model
+abbrev pub replies_as_model : (status : Status) (l : Layout) (left_old left_new out_old out_new : Option (List ℕ)) → HasNumbersInOrder l → RunsByLayout status l left_old left_new out_old out_new
+    → RunsAsModel grammar_parser status (state_of l) left_old left_new out_old out_new
+replies_as_model status l left_old left_new out_old out_new in_order is = record {
+  answers = is.answers;
+  runs = is.runs;
+  replied = subst (λ (rs : List (List ℕ)). AreReplies grammar_parser (state_of l) (all_pieces (script_of left_old is.runs.read)) rs) (sym is.replied)
+      (answers_are (all_pieces (script_of left_old is.runs.read)) (new_world l) in_order);
+}
+
 -- the replies from a layout, and what a crash leaves of it by states and by shapes
 pub record RunsWhole (asked : Option Partitioner) (status : Status) (l : Layout) (left_old left_new : Option (List ℕ)) (host_old host_new : View) : Type 0 where
-  pub runs : Runs grammar_parser (exact grammar_parser) status (state_of l) left_old left_new host_old.emitted host_new.emitted
+  pub by_layout : RunsByLayout status l left_old left_new host_old.emitted host_new.emitted
   pub crash : (before : List ℕ) → host_old.emitted ≡ Some before → (folder : Folder) (out : List ℕ) → host_new.left host_old.moment folder out
-      → Recovers Stands grammar_parser asked host_old (state_of l) (all_pieces (script_of left_old runs.read)) before folder out
+      → Recovers Stands grammar_parser asked host_old (state_of l) (all_pieces (script_of left_old by_layout.runs.read)) by_layout.answers before folder out
   pub shapes : (before : List ℕ) → host_old.emitted ≡ Some before → (folder : Folder) (out : List ℕ) → host_new.left host_old.moment folder out
-      → LeavesShape grammar_parser asked host_old l (all_pieces (script_of left_old runs.read)) before folder out
-  pub ends : RanToEnd status → StandsForEnd host_new (closed (after_pieces steps (new_world l) (all_pieces (script_of left_old runs.read))).layout)
-      (state_after (state_of l) (all_pieces (script_of left_old runs.read)))
+      → LeavesShape grammar_parser asked host_old l (all_pieces (script_of left_old by_layout.runs.read)) before folder out
+  pub ends : RanToEnd status → StandsForEnd host_new (closed (after_pieces steps (new_world l) (all_pieces (script_of left_old by_layout.runs.read))).layout)
+      (state_after (state_of l) (all_pieces (script_of left_old by_layout.runs.read)))
 
 -- what a run does, from each layout
 pub record Whole (asked : Option Partitioner) (status : Status) (script_old script_new : SourceView) (host_old host_new : View) : Type 0 where
   pub on_every_host : (s : State) × Runs grammar_parser (but_rows grammar_parser) status s script_old.left script_new.left host_old.emitted host_new.emitted
   pub as_it_reads : (folder : Folder) (l : Layout) → host_old.files ≡ Some folder → ShapeOf asked folder l
-      → Runs grammar_parser (exact grammar_parser) status (state_of l) script_old.left script_new.left host_old.emitted host_new.emitted
+      → RunsAsModel grammar_parser status (state_of l) script_old.left script_new.left host_old.emitted host_new.emitted
   pub shows : (l : Layout) → StartsFromLayout asked host_old l → RunsWhole asked status l script_old.left script_new.left host_old host_new
 
 -- the words named no script
-pub nothing_runs : (r : Replies) (s : State) (l o : Option (List ℕ)) → Runs grammar_parser r Usage s l l o o
+unfoldable pub nothing_runs : (r : Replies) (s : State) (l o : Option (List ℕ)) → Runs grammar_parser r Usage s l l o o
 nothing_runs r s l o = record {
   read = [];
   shown = [];
@@ -167,13 +197,22 @@ nothing_runs r s l o = record {
   bounded = omega arith;
 }
 
+-- the replies to a script of which nothing is read
+abbrev pub unread_answers : Layout → Option (List ℕ) → List (List ℕ)
+unread_answers l left = answers_of steps (new_world l) (all_pieces (script_of left []))
+
+-- nothing was run from a layout
+unfoldable pub nothing_by_layout : (l : Layout) (left out : Option (List ℕ)) → RunsByLayout Usage l left left out out
+unfolding nothing_runs
+nothing_by_layout l left out = record { answers = unread_answers l left; runs = nothing_runs (first_of (unread_answers l left)) (state_of l) left out; replied = refl }
+
 runs_nothing : (asked : Option Partitioner) (a : View) (m : Layout) (l : Option (List ℕ)) → IsSound a → StartsFromLayout asked a m
     → RunsWhole asked Usage m l l a a
 runs_nothing asked a m l sound starts =
     let same : Changes (UnchangedOrShaped asked m) a a = changes_as a a Same (UnchangedOrShaped asked m) (stays a) (λ x y is. inl is) in
     record {
-      runs = nothing_runs (exact grammar_parser) (state_of m) l a.emitted;
-      crash = λ before emitted folder out left. recovers_image asked a m starts before emitted _ folder out (leaves_opening asked a m starts before emitted a sound same folder out left);
+      by_layout = nothing_by_layout m l a.emitted;
+      crash = λ before emitted folder out left. recovers_image asked a m starts before emitted _ _ folder out (leaves_opening asked a m starts before emitted a sound same folder out left);
       shapes = λ before emitted folder out left. inl (leaves_opening asked a m starts before emitted a sound same folder out left);
       ends = λ is. absurd is;
     }
@@ -229,11 +268,17 @@ not_ended (open_fault.Damaged damage) is = is
 not_ended (open_fault.AnalyzerMissing class) is = is
 not_ended (open_fault.PartitionerDiffers asked kept) is = is
 
+unfoldable pub unopened_by_layout : (fault : OpenFault) (l : Layout) (left out out2 : Option (List ℕ)) → Appends out out2 []
+    → RunsByLayout (status_of_fault fault) l left left out out2
+unfolding first_runs
+unopened_by_layout fault l left out out2 silent =
+    record { answers = unread_answers l left; runs = first_runs (first_of (unread_answers l left)) fault (state_of l) left out out2 refl silent; replied = refl }
+
 runs_unopened : (asked : Option Partitioner) (fault : OpenFault) (a b : View) (m : Layout) (l : Option (List ℕ)) → IsSound a → StartsFromLayout asked a m
     → Appends a.emitted b.emitted [] → Changes (UnchangedOrShaped asked m) a b → RunsWhole asked (status_of_fault fault) m l l a b
 runs_unopened asked fault a b m l sound starts silent change = record {
-  runs = first_runs (exact grammar_parser) fault (state_of m) l a.emitted b.emitted refl silent;
-  crash = λ before emitted folder out left. recovers_image asked a m starts before emitted _ folder out (leaves_opening asked a m starts before emitted b sound change folder out left);
+  by_layout = unopened_by_layout fault m l a.emitted b.emitted silent;
+  crash = λ before emitted folder out left. recovers_image asked a m starts before emitted _ _ folder out (leaves_opening asked a m starts before emitted b sound change folder out left);
   shapes = λ before emitted folder out left. inl (leaves_opening asked a m starts before emitted b sound change folder out left);
   ends = λ is. absurd (not_ended fault is);
 }
@@ -250,15 +295,24 @@ moved r status s l l2 o p q same runs = record {
   bounded = runs.bounded;
 }
 
+-- the replies behind the opening
+unfoldable pub by_layout_behind : {kinds : List Class} (status : Status) (l : Layout) (left later : Option (List ℕ)) (b a c : View) → b.emitted ≡ a.emitted
+    → RunsWorld kinds status (new_world l) left later b c → RunsByLayout status l left later a.emitted c.emitted
+unfolding moved
+by_layout_behind status l left later b a c same on =
+    record { answers = on.answers; runs = moved (first_of on.answers) status (state_of l) left later b.emitted a.emitted c.emitted same on.runs; replied = on.replied }
+
 -- it was opened, and the script run
 runs_opened : {kinds : List Class} (asked : Option Partitioner) (status : Status) (a b c : View) (m : Layout) (store : StoreView) (l l2 : Option (List ℕ)) → IsSound a
     → StartsFromLayout asked a m → Changes (UnchangedOrShaped asked m) a b → ServesWorld b store.memory (new_world m) → IsSound c
     → RunsWorld kinds status (new_world m) l l2 b c → RunsWhole asked status m l l2 a c
-unfolding moved
+unfolding by_layout_behind
 runs_opened asked status a b c m store l l2 sound starts change serves sound_c on = record {
-  runs = moved (exact grammar_parser) status (state_of m) l l2 b.emitted a.emitted c.emitted change.emitted on.runs;
-  crash = λ before emitted folder out left. recovers asked a m starts before emitted (all_pieces (script_of l on.runs.read)) serves.in_order folder out
-      (leaves_run asked a m starts before emitted (all_pieces (script_of l on.runs.read)) b c sound change on.crashes folder out left);
+  by_layout = by_layout_behind status m l l2 b a c change.emitted on;
+  crash = λ before emitted folder out left.
+      subst (λ (rs : List (List ℕ)). Recovers Stands grammar_parser asked a (state_of m) (all_pieces (script_of l on.runs.read)) rs before folder out) (sym on.replied)
+      (recovers asked a m starts before emitted (all_pieces (script_of l on.runs.read)) serves.in_order folder out
+      (leaves_run asked a m starts before emitted (all_pieces (script_of l on.runs.read)) b c sound change on.crashes folder out left));
   shapes = λ before emitted folder out left. leaves_run asked a m starts before emitted (all_pieces (script_of l on.runs.read)) b c sound change on.crashes folder out left;
   ends = λ ran. stands_for_end c (after_pieces steps (new_world m) (all_pieces (script_of l on.runs.read))).layout _ sound_c (on.told ran) (on.ends ran)
       (state_is (all_pieces (script_of l on.runs.read)) (new_world m) serves.in_order);
@@ -274,7 +328,7 @@ no_tables = record { partitioner = Lead8; tables = [] }
 pub whole_unused : (asked : Option Partitioner) (script : SourceView) (a : View) → IsSound a → Whole asked Usage script script a a
 whole_unused asked script a sound = record {
   on_every_host = (no_tables, nothing_runs (but_rows grammar_parser) no_tables script.left a.emitted);
-  as_it_reads = λ folder l files shape. nothing_runs (exact grammar_parser) (state_of l) script.left a.emitted;
+  as_it_reads = λ folder l files shape. replies_as_model Usage l script.left script.left a.emitted a.emitted (shape_order asked folder l shape) (nothing_by_layout l script.left a.emitted);
   shows = λ l starts. runs_nothing asked a l script.left sound starts;
 }
 
@@ -284,7 +338,9 @@ pub whole_unopened : (asked : Option Partitioner) (fault : OpenFault) (script : 
     → Whole asked (status_of_fault fault) script script a b
 whole_unopened asked fault script a b sound silent change = record {
   on_every_host = (no_tables, first_runs (but_rows grammar_parser) fault no_tables script.left a.emitted b.emitted refl silent);
-  as_it_reads = λ folder l files shape. first_runs (exact grammar_parser) fault (state_of l) script.left a.emitted b.emitted refl silent;
+  as_it_reads = λ folder l files shape.
+      replies_as_model (status_of_fault fault) l script.left script.left a.emitted b.emitted (shape_order asked folder l shape)
+      (unopened_by_layout fault l script.left a.emitted b.emitted silent);
   shows = λ l starts. runs_unopened asked fault a b l script.left sound starts silent (change starts.folder l starts.reads starts.shape);
 }
 
@@ -297,7 +353,9 @@ pub whole_opened : {kinds : List Class} (asked : Option Partitioner) (status : S
 whole_opened asked status script later a b c store s of sound sound_c silent change opened on = record {
   on_every_host = (s, moved (but_rows grammar_parser) status s script.left later.left b.emitted a.emitted c.emitted silent (on.anywhere s of));
   as_it_reads = λ folder l files shape.
-      moved (exact grammar_parser) status (state_of l) script.left later.left b.emitted a.emitted c.emitted silent (on.from (new_world l) (opened folder l files shape)).runs;
+      (let serves = opened folder l files shape in
+      replies_as_model status l script.left later.left a.emitted c.emitted serves.in_order
+      (by_layout_behind status l script.left later.left b a c silent (on.from (new_world l) serves)));
   shows = λ l starts.
       (let serves = opened starts.folder l starts.reads starts.shape in
       runs_opened asked status a b c l store script.left later.left sound starts (change starts.folder l starts.reads starts.shape) serves sound_c
@@ -315,9 +373,13 @@ ends_with v l s is = record {
   images = λ image now asked. record { shape = _; has = inr (is.images image now); state_is = sym is.state_is };
 }
 
-from_layout : (asked : Option Partitioner) (status : Status) (l : Layout) (left later : Option (List ℕ)) (a b : View) → RunsWhole asked status l left later a b
-    → RunsFrom Stands grammar_parser asked status (state_of l) left later a b
-from_layout asked status l left later a b is = record { runs = is.runs; crash = is.crash; ends = λ ran. ends_with b _ _ (is.ends ran) }
+from_layout : (asked : Option Partitioner) (status : Status) (l : Layout) (left later : Option (List ℕ)) (a b : View) → HasNumbersInOrder l
+    → RunsWhole asked status l left later a b → RunsFrom Stands grammar_parser asked status (state_of l) left later a b
+from_layout asked status l left later a b in_order is = record {
+  as_model = replies_as_model status l left later a.emitted b.emitted in_order is.by_layout;
+  crash = is.crash;
+  ends = λ ran. ends_with b _ _ (is.ends ran);
+}
 
 -- where the folder stands for a state, a run starts from a layout of it
 starts_from : (asked : Option Partitioner) (a : View) (s : State) (starts : StartsFrom Stands asked a s) → StartsFromLayout asked a starts.stands.shape
@@ -334,15 +396,15 @@ headline_of asked status script later a b is = record {
   parses = is_parser;
   on_every_host = is.on_every_host;
   as_it_reads = λ folder s reads stands.
-      subst (λ (t : State). Runs grammar_parser (exact grammar_parser) status t script.left later.left a.emitted b.emitted) (sym stands.state_is) (is.as_it_reads folder stands.shape reads stands.has);
+      subst (λ (t : State). RunsAsModel grammar_parser status t script.left later.left a.emitted b.emitted) (sym stands.state_is) (is.as_it_reads folder stands.shape reads stands.has);
   shows = λ s starts.
       subst (λ (t : State). RunsFrom Stands grammar_parser asked status t script.left later.left a b) (sym starts.stands.state_is)
-      (from_layout asked status starts.stands.shape script.left later.left a b (is.shows starts.stands.shape (starts_from asked a s starts)));
+      (from_layout asked status starts.stands.shape script.left later.left a b (shape_order asked starts.folder starts.stands.shape starts.stands.has) (is.shows starts.stands.shape (starts_from asked a s starts)));
 }
 
 pub shapes_of : (asked : Option Partitioner) (status : Status) (script later : SourceView) (a b : View) → Whole asked status script later a b → Shapes asked status script later a b
 shapes_of asked status script later a b is = record {
   parser = grammar_parser;
   parses = is_parser;
-  shows = λ l starts. (let whole = is.shows l starts in record { runs = whole.runs; shapes = whole.shapes; ends = whole.ends });
+  shows = λ l starts. (let whole = is.shows l starts in record { answers = whole.by_layout.answers; runs = whole.by_layout.runs; replied = whole.by_layout.replied; shapes = whole.shapes; ends = whole.ends });
 }

@@ -1,30 +1,29 @@
 -- Pieces run from a world, one after another, and that they show what the model shows at its state.
-use Rattle.std.proofs.Common.{◌≡◌, ℕ, ◌+◌, List, [], ◌∷◌, ◌++◌, refl, sym, ap, ◌∙◌, arith, append_assoc}
+use Rattle.std.proofs.Common.{◌≡◌, ℕ, ◌+◌, List, [], ◌∷◌, ◌++◌, length, take, refl, sym, ap, ◌∙◌, subst, arith}
 use Rattle.sasi_types.specs.declared.class.Class.{Class}
 use Rattle.sasi_model.specs.Pieces.{Piece}
 use Rattle.sasi_model.specs.State.{State}
-use Rattle.sasi_model.specs.Step.{refusals, replies, state_after}
+use Rattle.sasi_model.specs.Parsers.{grammar_parser}
+use Rattle.sasi_model.specs.Step.{refusals, state_after}
 use Rattle.sasi_layout.specs.Layout.{state_of}
 use Rattle.sasi_layout.specs.Running.{after_pieces, replies_of}
 use Rattle.sasi_layout.specs.NumbersInOrder.{HasNumbersInOrder}
 use Rattle.sasi_layout.specs.Worlds.{World, steps}
 use Rattle.sasi_layout.proofs.StatementLaws.{step_in_order, step_state}
 use Rattle.sasi_run.specs.EmitCounts.{emits_for, emits_in, emits_of}
+use Rattle.sasi_run.specs.Headline.{AreReplies}
 use Rattle.sasi_run.specs.Session.{refusals_of, refused_by}
 use Rattle.sasi_run.specs.Needs.{AreSupplied}
+use Rattle.sasi_run.specs.Shapes.{answers_of}
+use Rattle.sasi_run.proofs.Joining.{after-append, first_answers, replies-append}
 
 -- ---- one after another
 
 pub after_both : (xs ys : List Piece) (w : World) → after_pieces steps w (xs ++ ys) ≡ after_pieces steps (after_pieces steps w xs) ys
-after_both [] ys w = refl
-after_both (x ∷ xs) ys w = after_both xs ys (steps.after w x)
+after_both xs ys w = after-append steps xs ys w
 
 pub replies_both : (xs ys : List Piece) (w : World) → replies_of steps w (xs ++ ys) ≡ replies_of steps w xs ++ replies_of steps (after_pieces steps w xs) ys
-replies_both [] ys w = refl
-replies_both (x ∷ xs) ys w =
-    let later : World = steps.after w x in
-    ap (λ (l : List ℕ). steps.reply w x ++ l) (replies_both xs ys later)
-    ∙ sym (append_assoc (steps.reply w x) (replies_of steps later xs) (replies_of steps (after_pieces steps later xs) ys))
+replies_both xs ys w = replies-append steps xs ys w
 
 pub refusals_both : (xs ys : List Piece) (w : World) → refusals_of w (xs ++ ys) ≡ refusals_of w xs + refusals_of (after_pieces steps w xs) ys
 refusals_both [] ys w = omega arith
@@ -49,12 +48,14 @@ pub state_is : (ps : List Piece) (w : World) → HasNumbersInOrder w.layout → 
 state_is [] w in_order = refl
 state_is (p ∷ ps) w in_order = state_is ps (steps.after w p) (step_in_order w p in_order) ∙ ap (λ (s : State). state_after s ps) (step_state w p in_order)
 
--- and so are their replies
-pub replies_are : (ps : List Piece) (w : World) → HasNumbersInOrder w.layout → replies_of steps w ps ≡ replies (state_of w.layout) ps
-replies_are [] w in_order = refl
-replies_are (p ∷ ps) w in_order =
-    ap (λ (l : List ℕ). steps.reply w p ++ l)
-    (replies_are ps (steps.after w p) (step_in_order w p in_order) ∙ ap (λ (s : State). replies s ps) (step_state w p in_order))
+-- and so is each of their replies
+pub answers_are : (ps : List Piece) (w : World) → HasNumbersInOrder w.layout → AreReplies grammar_parser (state_of w.layout) ps (answers_of steps w ps)
+answers_are [] w in_order = refl
+answers_are (p ∷ ps) w in_order = (
+  refl,
+  subst (λ (s : State). AreReplies grammar_parser s ps (answers_of steps (steps.after w p) ps)) (step_state w p in_order)
+      (answers_are ps (steps.after w p) (step_in_order w p in_order)),
+)
 
 pub refusals_are : (ps : List Piece) (w : World) → HasNumbersInOrder w.layout → refusals_of w ps ≡ refusals (state_of w.layout) ps
 refusals_are [] w in_order = refl
@@ -62,8 +63,12 @@ refusals_are (p ∷ ps) w in_order =
     ap (λ (n : ℕ). refused_by w p + n)
     (refusals_are ps (steps.after w p) (step_in_order w p in_order) ∙ ap (λ (s : State). refusals s ps) (step_state w p in_order))
 
-pub emits_are : (ps : List Piece) (w : World) → HasNumbersInOrder w.layout → emits_in w ps ≡ emits_for (state_of w.layout) ps
-emits_are [] w in_order = refl
-emits_are (p ∷ ps) w in_order =
-    ap (λ (n : ℕ). emits_of (steps.reply w p) + n)
-    (emits_are ps (steps.after w p) (step_in_order w p in_order) ∙ ap (λ (s : State). emits_for s ps) (step_state w p in_order))
+-- ---- by the replies
+
+emits_are : (ps : List Piece) (w : World) → emits_in w ps ≡ emits_for (answers_of steps w ps)
+emits_are [] w = refl
+emits_are (p ∷ ps) w = ap (λ (n : ℕ). emits_of (steps.reply w p) + n) (emits_are ps (steps.after w p))
+
+-- the emits for some first pieces are those of as many replies
+pub first_emits : (w : World) (done rest all : List Piece) → all ≡ done ++ rest → emits_in w done ≡ emits_for (take (length done) (answers_of steps w all))
+first_emits w done rest all parts = emits_are done w ∙ ap emits_for (sym (first_answers steps w done rest all parts))

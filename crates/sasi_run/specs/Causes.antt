@@ -150,7 +150,7 @@ DidntBegin kinds folder _ = ⊥
 -- how many emits the run made, and which numbers and analyzers its pieces needed
 pub record CountsFrom (kinds : List Class) (folder : Folder) (status : Status) (l : Layout) (script_old script_new : SourceView) (host_old host_new : View) : Type 0 where
   pub emits : CountsEmits status (state_of l) script_old.left script_new.left host_old host_new
-  pub needs : DidntBegin kinds folder status ⊎ NeedsByStatus kinds status (new_world l) (script_of script_old.left emits.runs.read) emits.runs.read emits.runs.shown
+  pub needs : DidntBegin kinds folder status ⊎ NeedsByStatus kinds status (new_world l) (script_of script_old.left emits.as_model.runs.read) emits.as_model.runs.read emits.as_model.runs.shown
 
 -- ---- all of them
 

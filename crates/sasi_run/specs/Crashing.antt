@@ -22,9 +22,10 @@ use Rattle.sasi_run.specs.declared.session.Stop.TheVariants.{Missing, Output, Sp
 use Rattle.sasi_run.specs.declared.status.Status.{Status}
 use Rattle.sasi_run.specs.declared.status.Status.TheVariants.{AnalyzerMissing, Damaged, ScriptFault}
 use Rattle.sasi_run.specs.EmitCounts.{EmitsCounted, MakesEmits, emits_failed, emits_in}
-use Rattle.sasi_run.specs.Headline.{AreRepliesButRows, IsReplyButRows, RanToEnd, READ_MOST, SCRIPT_MOST, Runs, but_rows, exact, script_of, status_of_stop}
+use Rattle.sasi_run.specs.Headline.{AreRepliesButRows, IsReplyButRows, RanToEnd, READ_MOST, SCRIPT_MOST, Runs, but_rows, first_of, script_of, status_of_stop}
 use Rattle.sasi_run.specs.Session.{EmittedAtStop, Feeds, Stops, refusals_of}
 use Rattle.sasi_run.specs.Needs.{AreSupplied, NeedsByStatus}
+use Rattle.sasi_run.specs.Shapes.{answers_of}
 
 -- ---- moments
 
@@ -162,13 +163,15 @@ pub record RanScript (kinds : List Class) (from to : Session) (left_old left_new
   pub ready : IsReady b to.store
   pub ran : (w : World) → ServesWorld a from.store.memory w → RanPieces kinds w (all_pieces read) from to a b
 
--- From a world that the store served the run showed what its status says, by so many emits, and a crash meanwhile leaves no more than the pieces of the script do.
+-- From a world that the store served the run showed as many of its replies as its status says, by so many emits, and a crash meanwhile leaves no more than the pieces of the script do.
 pub record RunsWorld (kinds : List Class) (status : Status) (w : World) (left_old left_new : Option (List ℕ)) (a b : View) : Type 0 where
-  pub runs : Runs grammar_parser (exact grammar_parser) status (state_of w.layout) left_old left_new a.emitted b.emitted
+  pub answers : List (List ℕ)
+  pub runs : Runs grammar_parser (first_of answers) status (state_of w.layout) left_old left_new a.emitted b.emitted
+  pub replied : answers ≡ answers_of steps w (all_pieces (script_of left_old runs.read))
   pub crashes : CrashLeavesPieces a b w (all_pieces (script_of left_old runs.read))
   pub told : RanToEnd status → IsTold b
   pub ends : RanToEnd status → Ended b (closed (after_pieces steps w (all_pieces (script_of left_old runs.read))).layout)
-  pub emits : EmitsCounted grammar_parser status (state_of w.layout) (script_of left_old runs.read) runs.read runs.shown a.emits b.emits
+  pub emits : EmitsCounted answers status (state_of w.layout) (script_of left_old runs.read) runs.read runs.shown a.emits b.emits
   pub needs : NeedsByStatus kinds status w (script_of left_old runs.read) runs.read runs.shown
   pub undamaged : (damage : Damage) → status ≢ Damaged damage
 

@@ -2,6 +2,7 @@
 -- the replies that the model gives to the pieces of the script, and each status says how many of them. When a folder stands for
 -- a state is a parameter: nothing here rests on a file's format. `Shapes` says it of files.
 use Rattle.std.specs.Prelude.{◌≡◌, ℕ, ◌+◌, ◌-◌, ◌^◌, ◌≤◌, ◌<◌, ◌==◌, if◌then◌else◌, min, List, [], ◌∷◌, ◌++◌, length, take, Option, Some, unwrap_or}
+use Rattle.std.specs.List.{concat}
 use Rattle.std.specs.Io.KnownBytes.{Appends, Consumes, IsAtEnd}
 use Rattle.sasi_types.specs.declared.partitioner.Partitioner.{Partitioner}
 use Rattle.sasi_host.specs.View.{SourceView, View}
@@ -9,11 +10,11 @@ use Rattle.sasi_host.specs.Names.{Folder}
 use Rattle.sasi_model.specs.Pieces.{Piece, pieces, all_pieces}
 use Rattle.sasi_model.specs.State.{State}
 use Rattle.sasi_model.specs.Parsers.{Parser, IsParser}
-use Rattle.sasi_model.specs.Step.{step_by, state_by, replies_by, refusals_by}
+use Rattle.sasi_model.specs.Step.{step_by, state_by, refusals_by}
 use Rattle.sasi_recover.specs.declared.fault.OpenFault.{OpenFault}
 use Rattle.sasi_recover.specs.declared.fault.OpenFault.TheVariants as open_fault
 use Rattle.sasi_store.specs.Answers.{PrintsRows}
-use Rattle.sasi_run.specs.Recovering.{Recovers, StandsRelation}
+use Rattle.sasi_run.specs.Recovering.{Recovers, StandsRelation, next_reply}
 use Rattle.sasi_run.specs.declared.session.Stop.{Stop}
 use Rattle.sasi_run.specs.declared.session.Stop.TheVariants.{Disk, Output, Memory, Corrupt, Spent, Missing}
 use Rattle.sasi_run.specs.declared.status.Status.{Status}
@@ -29,14 +30,27 @@ READ_MOST = 4096
 
 -- ---- replies
 
--- what is said of replies: of those to pieces from a state, joined, and of the one to a piece
+-- the reply to a piece from a state is that of the model
+abbrev pub IsReply : Parser → State → Piece → List ℕ → Type 0
+IsReply parser s piece reply = reply ≡ (step_by parser s piece).reply
+
+-- these are the replies to pieces from a state, one to each
+abbrev pub AreReplies : Parser → State → List Piece → List (List ℕ) → Type 0
+AreReplies parser s [] answers = answers ≡ []
+AreReplies parser s (p ∷ ps) [] = ⊥
+AreReplies parser s (p ∷ ps) (reply ∷ answers) = IsReply parser s p reply × AreReplies parser (step_by parser s p).state ps answers
+
+-- what is said of the bytes of replies: of those to the first pieces of a script from a state, joined, and of the one to a piece behind them
 pub record Replies : Type 1 where
   pub all : State → List Piece → List ℕ → Type 0
-  pub one : State → Piece → List ℕ → Type 0
+  pub one : State → List Piece → Piece → List ℕ → Type 0
 
--- they are those of the model
-abbrev pub exact : Parser → Replies
-exact parser = record { all = λ s pieces shown. shown ≡ replies_by parser s pieces; one = λ s piece reply. reply ≡ (step_by parser s piece).reply }
+-- they are the first of these, which are the replies to the pieces of the script, one to each
+abbrev pub first_of : List (List ℕ) → Replies
+first_of answers = record {
+  all = λ s pieces shown. shown ≡ concat (take (length pieces) answers);
+  one = λ s done piece reply. next_reply answers (length done) ≡ reply;
+}
 
 -- the reply of a piece is that of the model, but where it has rows
 abbrev pub IsReplyButRows : Parser → State → Piece → List ℕ → Type 0
@@ -49,7 +63,7 @@ AreRepliesButRows parser s (p ∷ ps) shown = (reply others : List ℕ) × (show
 
 -- they are those of the model, whatever the rows are that the SELECTs print
 abbrev pub but_rows : Parser → Replies
-but_rows parser = record { all = AreRepliesButRows parser; one = IsReplyButRows parser }
+but_rows parser = record { all = AreRepliesButRows parser; one = λ s done piece reply. IsReplyButRows parser (state_by parser s done) piece reply }
 
 -- ---- what was emitted
 
@@ -100,7 +114,7 @@ pub record EmitsBeforePiece (r : Replies) (s : State) (script read shown : List 
   pub replied : r.all s done shown
 
 -- and a first part of the next reply behind them
-pub record EmitsCutReply (parser : Parser) (r : Replies) (s : State) (script read shown : List ℕ) : Type 0 where
+pub record EmitsCutReply (r : Replies) (s : State) (script read shown : List ℕ) : Type 0 where
   pub done : List Piece
   pub piece : Piece
   pub first : IsFirstPart script read done (piece ∷ [])
@@ -108,7 +122,7 @@ pub record EmitsCutReply (parser : Parser) (r : Replies) (s : State) (script rea
   pub front : List ℕ
   pub back : List ℕ
   pub replied : r.all s done whole
-  pub reply : r.one (state_by parser s done) piece (front ++ back)
+  pub reply : r.one s done piece (front ++ back)
   pub parts : shown ≡ whole ++ front
 
 -- what was emitted, by the status, of this script of which so much was read
@@ -120,7 +134,7 @@ EmitsByStatus parser r ScriptFault s script read shown = EmitsWholePieces r s re
 EmitsByStatus parser r ScriptTooLong s script read shown = EmitsUpToLimit r s read shown
 EmitsByStatus parser r (PartitionerDiffers asked kept) s script read shown = (read ≡ []) × (shown ≡ [])
 EmitsByStatus parser r (NumbersSpent kind) s script read shown = EmitsBeforePiece r s script read shown
-EmitsByStatus parser r OutputFault s script read shown = EmitsCutReply parser r s script read shown
+EmitsByStatus parser r OutputFault s script read shown = EmitsCutReply r s script read shown
 EmitsByStatus parser r status s script read shown = EmitsFirstReplies r s script read shown
 
 -- the script was read to its end
@@ -145,6 +159,12 @@ pub record Runs (parser : Parser) (r : Replies) (status : Status) (s : State) (l
   pub shows : EmitsByStatus parser r status s (script_of left_old read) read shown
   pub bounded : length read ≤ SCRIPT_MOST + READ_MOST
 
+-- **The replies**, from a state: one to each piece of the script, as the model gives it. What was emitted are the first of them, as many as the status says.
+pub record RunsAsModel (parser : Parser) (status : Status) (s : State) (left_old left_new out_old out_new : Option (List ℕ)) : Type 0 where
+  pub answers : List (List ℕ)
+  pub runs : Runs parser (first_of answers) status s left_old left_new out_old out_new
+  pub replied : AreReplies parser s (all_pieces (script_of left_old runs.read)) answers
+
 -- ---- from a state
 
 -- A run on this host begins with this state: its folder, as it reads, stands for it, and each image of it stands for some state.
@@ -163,10 +183,10 @@ pub record EndsWith (StandsFor : StandsRelation) (host : View) (s : State) : Typ
 
 -- **The replies, and what a crash leaves.** What was emitted are replies as the status says, and at each moment since the start a crash leaves the state after the pieces whose replies were emitted, or after one more. A run to the script's end leaves the state after all of them.
 pub record RunsFrom (StandsFor : StandsRelation) (parser : Parser) (asked : Option Partitioner) (status : Status) (s : State) (left_old left_new : Option (List ℕ)) (host_old host_new : View) : Type 0 where
-  pub runs : Runs parser (exact parser) status s left_old left_new host_old.emitted host_new.emitted
+  pub as_model : RunsAsModel parser status s left_old left_new host_old.emitted host_new.emitted
   pub crash : (before : List ℕ) → host_old.emitted ≡ Some before → (folder : Folder) (out : List ℕ) → host_new.left host_old.moment folder out
-      → Recovers StandsFor parser asked host_old s (all_pieces (script_of left_old runs.read)) before folder out
-  pub ends : RanToEnd status → EndsWith StandsFor host_new (state_by parser s (all_pieces (script_of left_old runs.read)))
+      → Recovers StandsFor parser asked host_old s (all_pieces (script_of left_old as_model.runs.read)) as_model.answers before folder out
+  pub ends : RanToEnd status → EndsWith StandsFor host_new (state_by parser s (all_pieces (script_of left_old as_model.runs.read)))
 
 -- what a run does where this partitioner is asked, by what its source and its host tell before it and after it
 pub record Headline (StandsFor : StandsRelation) (asked : Option Partitioner) (status : Status) (script_old script_new : SourceView) (host_old host_new : View) : Type 0 where
@@ -177,7 +197,7 @@ pub record Headline (StandsFor : StandsRelation) (asked : Option Partitioner) (s
   pub on_every_host : (s : State) × Runs parser (but_rows parser) status s script_old.left script_new.left host_old.emitted host_new.emitted
   -- the replies, from the state for which the folder as it reads stands, whatever its images are
   pub as_it_reads : (folder : Folder) (s : State) → host_old.files ≡ Some folder → StandsFor asked folder s
-      → Runs parser (exact parser) status s script_old.left script_new.left host_old.emitted host_new.emitted
+      → RunsAsModel parser status s script_old.left script_new.left host_old.emitted host_new.emitted
   -- the replies, and the crash
   pub shows : (s : State) → StartsFrom StandsFor asked host_old s → RunsFrom StandsFor parser asked status s script_old.left script_new.left host_old host_new
 

@@ -1,6 +1,6 @@
 -- The headline, said of files: a run goes through layouts, of which the folder always has the shape of one; their states are
 -- those of the model.
-use Rattle.std.specs.Prelude.{◌≡◌, ◌⊎◌, ℕ, List, Option, Some}
+use Rattle.std.specs.Prelude.{◌≡◌, ◌⊎◌, ℕ, List, [], ◌∷◌, Option, Some}
 use Rattle.sasi_types.specs.declared.partitioner.Partitioner.{Partitioner}
 use Rattle.sasi_host.specs.View.{SourceView, View}
 use Rattle.sasi_host.specs.Names.{Folder}
@@ -13,9 +13,9 @@ use Rattle.sasi_layout.specs.Layout.{Layout, bare, state_of}
 use Rattle.sasi_layout.specs.Running.{Crashed, after_pieces}
 use Rattle.sasi_layout.specs.Serving.{closed}
 use Rattle.sasi_layout.specs.Shape.{IsOfShape, ShapeOf}
-use Rattle.sasi_layout.specs.Worlds.{new_world, steps_by}
+use Rattle.sasi_layout.specs.Worlds.{Transitions, new_world, steps_by}
 use Rattle.sasi_run.specs.declared.status.Status.{Status}
-use Rattle.sasi_run.specs.Headline.{RanToEnd, Runs, exact, script_of}
+use Rattle.sasi_run.specs.Headline.{RanToEnd, Runs, first_of, script_of}
 
 -- A run on this host begins with this layout: its folder, as it reads, has that shape, and each image of it has some shape.
 pub record StartsFromLayout (asked : Option Partitioner) (host : View) (l : Layout) : Type 0 where
@@ -46,9 +46,16 @@ pub record StandsForEnd (v : View) (l : Layout) (s : State) : Type 0 where
   pub images : (image : Folder) → v.image image → IsOfShape (bare l) image
   pub state_is : state_of (bare l) ≡ s
 
--- **What is left, file by file.** At each moment since the start the folder that a crash leaves has the shape of the layout after the pieces whose replies were emitted and a first part of the moves of the next one. A run to the script's end leaves the layout after all of them, and no other file.
+-- the replies to pieces, run from a world, one to each
+abbrev pub answers_of : {W : Type 0} → Transitions W → W → List Piece → List (List ℕ)
+answers_of steps w [] = []
+answers_of steps w (p ∷ ps) = steps.reply w p ∷ answers_of steps (steps.after w p) ps
+
+-- **What is left, file by file.** At each moment since the start the folder that a crash leaves has the shape of the layout after the pieces whose replies were emitted and a first part of the moves of the next one. A run to the script's end leaves the layout after all of them, and no other file. What was emitted are the first of the replies that these layouts give, as many as the status says.
 pub record GoesThroughLayouts (parser : Parser) (asked : Option Partitioner) (status : Status) (l : Layout) (left_old left_new : Option (List ℕ)) (host_old host_new : View) : Type 0 where
-  pub runs : Runs parser (exact parser) status (state_of l) left_old left_new host_old.emitted host_new.emitted
+  pub answers : List (List ℕ)
+  pub runs : Runs parser (first_of answers) status (state_of l) left_old left_new host_old.emitted host_new.emitted
+  pub replied : answers ≡ answers_of (steps_by parser) (new_world l) (all_pieces (script_of left_old runs.read))
   pub shapes : (before : List ℕ) → host_old.emitted ≡ Some before → (folder : Folder) (out : List ℕ) → host_new.left host_old.moment folder out
       → LeavesShape parser asked host_old l (all_pieces (script_of left_old runs.read)) before folder out
   pub ends : RanToEnd status → StandsForEnd host_new (closed (after_pieces (steps_by parser) (new_world l) (all_pieces (script_of left_old runs.read))).layout)
