@@ -28,8 +28,7 @@ use Rattle.sasi_machine.specs.declared.row_query.RowQuery.{RowQuery}
 use Rattle.sasi_machine.proofs.AskedKeys.{asked_alone}
 use Rattle.sasi_memtable.specs.MemtableView.{AreDecorated}
 use Rattle.sasi_merge.specs.Streams.{Entries, IsRising}
-use Rattle.sasi_store.specs.KeyLookups.{entry_found}
-use Rattle.sasi_store.specs.Left.{ArePrinted, rows_of}
+use Rattle.sasi_store.specs.Printing.{ArePrinted, entry_found, rows_of}
 use Rattle.sasi_store.proofs.Printing.{answer_is}
 
 both_true : (a b : Bool) → T (a && b) → T a × T b

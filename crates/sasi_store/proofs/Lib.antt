@@ -1,13 +1,6 @@
-mod Costs
-mod Steps
-mod Moves
-mod Advancing
-mod Openings
 mod Tables
+mod Printables
 mod Printing
-mod Pages
-mod KeyLookups
-mod KeyFinding
 mod KeyRows
 pub mod SegmentDeletions
 pub mod MapWriting

@@ -60,11 +60,10 @@ use Rattle.sasi_types.specs.declared.class.Class.{Class}
 use Rattle.sasi_types.specs.declared.column.ColumnType.{ColumnType}
 use Rattle.sasi_types.specs.declared.decorated_key.DecoratedKey.{DecoratedKey}
 use Rattle.sasi_types.specs.declared.partitioner.Partitioner.{Partitioner}
-use Rattle.sasi_store.specs.KeyLookups.{rows_reads, selection_reads}
 use Rattle.sasi_store.specs.Faults.{OnStepDamage, fault_of_read}
-use Rattle.sasi_store.specs.Scanning.{IsTableOf}
-use Rattle.sasi_store.specs.Selects.{IsSelectable, KnowsWhere}
-use Rattle.sasi_store.specs.Sources.{ShowsListed}
+use Rattle.sasi_scan.specs.Parts.{ShowsListed}
+use Rattle.sasi_store.specs.Selects.{IsSelectable, KnowsWhere, rows_reads, selection_reads}
+use Rattle.sasi_store.specs.Tables.{IsTableOf}
 use Rattle.sasi_store.specs.Puts.{HasTableFor}
 use Rattle.sasi_store.specs.StoreView.{held_in, memory_of}
 use Rattle.sasi_store.specs.declared.parts.Parts.{Parts}

@@ -46,8 +46,7 @@ use Rattle.sasi_store.specs.Faults.{OnMissing, OnSpent, OnStepDamage, StepCauses
 use Rattle.sasi_store.proofs.KnownClasses.{no_table_lacks}
 use Rattle.sasi_schema.specs.Numbers.{number_of_table}
 use Rattle.sasi_store.specs.MakesMoves.{MakesMoves}
-use Rattle.sasi_store.specs.KeyLookups.{selection_reads}
-use Rattle.sasi_store.specs.Selects.{select_reads}
+use Rattle.sasi_store.specs.Selects.{select_reads, selection_reads}
 use Rattle.sasi_store.specs.Steps.{StepPromises}
 use Rattle.sasi_store.specs.declared.fault.StepFault.{StepFault}
 use Rattle.sasi_store.specs.declared.fault.StepFault.TheVariants as fault

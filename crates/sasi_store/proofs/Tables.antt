@@ -1,139 +1,122 @@
--- The merge of a table's sources is the table.
-use Rattle.std.proofs.Common.{◌≡◌, ℕ, List, [], ◌∷◌, ◌++◌, map, Option, Some, refl, sym, ap, subst, ◌∙◌}
-use Rattle.std.proofs.lemmas.List.{map-append}
-use Rattle.std.specs.List.{AllByRecursion}
+-- The parts of a table: their merge is the table.
+use Rattle.std.proofs.Common.{◌≡◌, ◌≤◌, ◌+◌, ℕ, List, [], ◌∷◌, ◌++◌, map, Option, Some, refl, sym, ap, subst, ◌∙◌}
 use Rattle.std.specs.FinMap as map_
+use Rattle.std.specs.List.{AllByRecursion}
+use Rattle.std.specs.List.Sorted.{IsStrictlySortedBy}
 use Rattle.sasi_types.specs.declared.column.ColumnType.{ColumnType}
+use Rattle.sasi_types.specs.declared.decorated_key.DecoratedKey.{DecoratedKey}
 use Rattle.sasi_types.specs.declared.partitioner.Partitioner.{Partitioner}
 use Rattle.sasi_types.specs.DecoratedKey.{decorated_cmp, decorated_total}
 use Rattle.sasi_model.specs.Abbreviations.{Partitions, types_of}
-use Rattle.sasi_model.specs.State.{Definition}
+use Rattle.sasi_model.specs.Cells.{Partition}
+use Rattle.sasi_model.specs.State.{Definition, decorated}
 use Rattle.sasi_cells.specs.Maps.{merged}
 use Rattle.sasi_cells.proofs.Laws.Decorated.{same_maps}
 use Rattle.sasi_host.specs.declared.fault.ReadFault.{ReadFault}
 use Rattle.sasi_host.specs.declared.fault.ReadFault.TheVariants as fault
 use Rattle.sasi_host.specs.Damages.{OnDamage}
-use Rattle.sasi_host.specs.Disk.{Changes, Same}
 use Rattle.sasi_host.specs.Names.{Folder}
-use Rattle.sasi_host.specs.View.{View}
-use Rattle.sasi_machine.specs.TableRows.{AreStored}
-use Rattle.sasi_machine.specs.declared.row_query.RowQuery.{RowQuery}
-use Rattle.sasi_datawrite.specs.Format.{Content}
+use Rattle.sasi_datawrite.specs.Format.{Content, decorated_key}
 use Rattle.sasi_manifest.specs.declared.files.ListedFile.{ListedFile}
-use Rattle.sasi_memtable.specs.MemtableView.{MemtableView}
-use Rattle.sasi_layout.specs.Layout.{File as AFile, TableParts, table_of}
-use Rattle.sasi_layout.specs.Shape.{HasFile}
-use Rattle.sasi_merge.specs.Merging.{Head}
-use Rattle.sasi_merge.specs.Streams.{Entries, IsRising, maps_of, merged_entries}
-use Rattle.sasi_store.specs.declared.source.Source.{Source}
-use Rattle.sasi_store.specs.Sources.{AreReady, IsListedSource}
-use Rattle.sasi_store.specs.Left.{AreLeft, ArePrinted, entries_of}
-use Rattle.sasi_store.specs.Scanning.{AreContents, AreOpened, IsTableOf}
-use Rattle.sasi_store.proofs.Costs.{reads_same}
-use Rattle.sasi_store.proofs.Openings.{all_both, contents_rise, each_among, left_both, map_entries, map_heads, map_sources, maps_left, maps_listed, maps_ready, maps_rise, opened_left, opened_listed, opened_ready, ready_both}
-use Rattle.sasi_store.proofs.Steps.{first_is}
+use Rattle.sasi_memtable.specs.MemtableView.{AreDecorated, MemtableView}
+use Rattle.sasi_layout.specs.Layout.{File, TableParts, parts, table_of}
+use Rattle.sasi_layout.specs.Shape.{HasFile, map_of}
+use Rattle.sasi_scan.specs.Finding.{file_maps, key_reads}
+use Rattle.sasi_scan.specs.Parts.{AreContents, entries_of, merged_parts}
+use Rattle.sasi_scan.proofs.Costs.{damage_as}
+use Rattle.sasi_scan.proofs.KeyLookups.{parts_are, parts_decorated}
+use Rattle.sasi_scan.proofs.Openings.{content_rises}
+use Rattle.sasi_store.specs.Tables.{IsTableOf, content_of, file_contents}
 
--- the files have these contents, which make the maps that they hold
-record FilesHave (folder : Folder) (p : Partitioner) (types : List ColumnType) (files : List ListedFile) (fs : List AFile) : Type 0 where
+-- ---- data files
+
+-- the content that a map came from
+keys_back : (p : Partitioner) (content : Content) → map (λ (e : DecoratedKey × Partition). (e.0.key, e.1)) (entries_of p content) ≡ content
+keys_back p [] = refl
+keys_back p (one ∷ content) = ap (λ (rest : Content). one ∷ rest) (keys_back p content)
+
+content_back : (p : Partitioner) (content : Content) → IsStrictlySortedBy decorated_cmp (map (decorated_key p) content) → content_of (map_of p content) ≡ content
+content_back p content rising =
+    let es = entries_of p content in
+    let sorted = content_rises p content rising in
+    let same : map_of p content ≡ map_.from_sorted es = same_maps _ _ (λ q. map_.get-from_entries decorated_total es q ∙ sym (map_.get-from_sorted decorated_cmp es q sorted)) in
+    ap content_of same ∙ ap (map (λ (e : DecoratedKey × Partition). (e.0.key, e.1))) (map_.entries-from_sorted decorated_cmp es sorted) ∙ keys_back p content
+
+record HasContents (folder : Folder) (p : Partitioner) (types : List ColumnType) (files : List ListedFile) (fs : List File) : Type 0 where
   pub contents : List Content
   pub have : AreContents (Some folder) p types files contents
-  pub maps_are : maps_of (map (entries_of p) contents) ≡ map (λ (f : AFile). f.holds) fs
+  pub maps_are : file_maps p contents ≡ map (λ (f : File). f.holds) fs
+  pub contents_are : contents ≡ map (λ (f : File). content_of f.holds) fs
 
-files_have : (folder : Folder) (p : Partitioner) (d : Definition) (ns : List ℕ) (fs : List AFile) → AllByRecursion (HasFile folder p d ns) fs → FilesHave folder p (types_of d) (map (λ (f : AFile). f.listed) fs) fs
-files_have folder p d ns [] all = record { contents = []; have = tt; maps_are = refl }
-files_have folder p d ns (f ∷ fs) all =
-    let rest = files_have folder p d ns fs all.1 in
-    let here = all.0.holds in
+has_contents : (folder : Folder) (p : Partitioner) (d : Definition) (ns : List ℕ) (fs : List File) → AllByRecursion (HasFile folder p d ns) fs → HasContents folder p (types_of d) (map (λ (f : File). f.listed) fs) fs
+has_contents folder p d ns [] all = record { contents = []; have = tt; maps_are = refl; contents_are = refl }
+has_contents folder p d ns (f ∷ fs) all =
+    let rest = has_contents folder p d ns fs all.1 in
+    let one = all.0 in
+    let here = one.holds in
+    let back = sym (content_back p one.content one.data_file.content_is.rising) ∙ ap content_of (sym here) in
     let others = rest.maps_are in
+    let behind = rest.contents_are in
     record {
-      contents = all.0.content ∷ rest.contents;
-      have = (record { bytes = all.0.bytes; reads = all.0.there; data_file = all.0.data_file; keys = all.0.keys }, rest.have);
+      contents = one.content ∷ rest.contents;
+      have = (record { bytes = one.bytes; reads = one.there; data_file = one.data_file; keys = one.keys }, rest.have);
       maps_are = λ i. sym here i ∷ others i;
+      contents_are = λ i. back i ∷ behind i;
     }
 
--- the entries of a map make it
-map_back : (m : Partitions) → map_.from_entries {R = decorated_cmp} (map_.entries m) ≡ m
-map_back m = same_maps _ _ (λ q. map_.get-from_entries decorated_total (map_.entries m) q ∙ sym (map_.get-entries m q))
+-- ---- the parts
 
-maps_back : (ms : List MemtableView) → maps_of (map_entries ms) ≡ map (λ (m : MemtableView). m.partitions) ms
-maps_back [] = refl
-maps_back (m ∷ ms) = let here = map_back m.partitions in let others = maps_back ms in λ i. here i ∷ others i
+module _ (seen : Option Folder) (folder : Folder) (p : Partitioner) (types : List ColumnType) (files : List ListedFile) (ms : List MemtableView) (t : TableParts) (told : seen ≡ Some folder) (is : IsTableOf folder p types files (map (λ (m : MemtableView). m.partitions) ms) t) where
+  all : HasContents folder p (types_of t.definition) (map (λ (f : File). f.listed) t.files) t.files
+  all = has_contents folder p t.definition t.numbers t.files is.have
 
--- The files of the table have these contents, and the merge of them and the maps is the table.
-pub record IsScanned (folder : Folder) (p : Partitioner) (types : List ColumnType) (files : List ListedFile) (ms : List MemtableView) (t : TableParts) : Type 0 where
-  pub contents : List Content
-  pub have : AreContents (Some folder) p types files contents
-  pub merge_is : merged_entries (map (entries_of p) contents ++ map_entries ms) ≡ map_.entries (table_of t).partitions
+  -- the files have the contents of the table's data files
+  pub table_contents : AreContents seen p types files (file_contents t)
+  table_contents =
+      subst (λ (o : Option Folder). AreContents o p types files (file_contents t)) (sym told)
+      (subst (λ (ts : List ColumnType). AreContents (Some folder) p ts files (file_contents t)) (sym is.types_are)
+      (subst (λ (fs : List ListedFile). AreContents (Some folder) p (types_of t.definition) fs (file_contents t)) (sym is.files_are)
+      (subst (AreContents (Some folder) p (types_of t.definition) (map (λ (f : File). f.listed) t.files)) all.contents_are all.have)))
 
-pub table_scanned : (folder : Folder) (p : Partitioner) (types : List ColumnType) (files : List ListedFile) (ms : List MemtableView) (t : TableParts) → IsTableOf folder p types files (map (λ (m : MemtableView). m.partitions) ms) t → IsScanned folder p types files ms t
-table_scanned folder p types files ms t is =
-    let all = files_have folder p t.definition t.numbers t.files is.have in
-    record {
-      contents = all.contents;
-      have = subst (λ (ts : List ColumnType). AreContents (Some folder) p ts files all.contents) (sym is.types_are)
-          (subst (λ (fs : List ListedFile). AreContents (Some folder) p (types_of t.definition) fs all.contents) (sym is.files_are) all.have);
-      merge_is =
-          ap (λ (l : List Partitions). map_.entries (merged l)) (
-          map-append (λ (es : Entries). map_.from_entries {R = decorated_cmp} es) (map (entries_of p) all.contents) (map_entries ms)
-          ∙ ap (λ (l : List Partitions). l ++ maps_of (map_entries ms)) all.maps_are
-          ∙ ap (λ (l : List Partitions). map (λ (f : AFile). f.holds) t.files ++ l) (maps_back ms ∙ is.maps_are));
-    }
+  -- **The merge of the parts is the table.**
+  pub table_merged : merged_parts p (file_contents t) ms ≡ (table_of t).partitions
+  table_merged =
+      ap merged (
+      parts_are p (file_contents t) ms
+      ∙ ap (λ (cs : List Content). file_maps p cs ++ map (λ (m : MemtableView). m.partitions) ms) (sym all.contents_are)
+      ∙ ap (λ (xs : List Partitions). xs ++ map (λ (m : MemtableView). m.partitions) ms) all.maps_are
+      ∙ ap (λ (xs : List Partitions). map (λ (f : File). f.holds) t.files ++ xs) is.maps_are)
 
--- ---- the sources of a table, once all are opened
+  pub table_decorated : AllByRecursion (λ (m : MemtableView). AreDecorated p m.partitions) ms → AreDecorated p (table_of t).partitions
+  table_decorated maps = subst (AreDecorated p) table_merged (parts_decorated p (file_contents t) ms maps)
 
-module _ (v w : View) (change : Changes Same v w) (types : List ColumnType) (files : List ListedFile) (ms : List MemtableView) (heads : List Head) (sources : List Source) (heads_all : List Head) (sources_all : List Source) (opened : AreOpened v.files types files heads sources) (heads_are : heads_all ≡ heads ++ map_heads ms) (sources_are : sources_all ≡ sources ++ map_sources ms) where
-  -- what is true of both is true of all
-  both_are : (P : Option Folder → List Head → List Source → Type 0) → P v.files (heads ++ map_heads ms) (sources ++ map_sources ms) → P w.files heads_all sources_all
-  both_are P is =
-      subst (λ (o : Option Folder). P o heads_all sources_all) (sym (reads_same v w change))
-      (subst (λ (hs : List Head). P v.files hs sources_all) (sym heads_are) (subst (λ (ss : List Source). P v.files (heads ++ map_heads ms) ss) (sym sources_are) is))
+-- a fault that isn't damage where the files have contents
+pub false_on : (seen : Option Folder) (types : List ColumnType) (files : List ListedFile) (f : ReadFault) → ((p : Partitioner) (contents : List Content) → AreContents seen p types files contents → OnDamage (λ _. ⊥) f)
+    → OnDamage (λ _. (p : Partitioner) (contents : List Content) → AreContents seen p types files contents → ⊥) f
+false_on seen types files fault.Failed none = tt
+false_on seen types files fault.OutOfMemory none = tt
+false_on seen types files (fault.Damaged damage) none = none
 
-  pub table_ready : (kind : ColumnType) → first_is types kind → AllByRecursion (λ (m : MemtableView). AreStored kind m.partitions) ms → AreReady w.files kind heads_all sources_all
-  table_ready kind first stored =
-      both_are (λ o hs ss. AreReady o kind hs ss)
-      (ready_both v.files kind heads sources (map_heads ms) (map_sources ms) (opened_ready v.files types kind files heads sources first opened) (maps_ready v.files kind ms stored))
+-- where the files are those of a table, they have contents
+pub no_false_table : (seen : Option Folder) (types : List ColumnType) (files : List ListedFile) (ms : List MemtableView) (f : ReadFault)
+    → OnDamage (λ _. (p : Partitioner) (contents : List Content) → AreContents seen p types files contents → ⊥) f
+    → OnDamage (λ _. (folder : Folder) (p : Partitioner) (t : TableParts) → seen ≡ Some folder → IsTableOf folder p types files (map (λ (m : MemtableView). m.partitions) ms) t → ⊥) f
+no_false_table seen types files ms f no_false =
+    damage_as (λ _. (p : Partitioner) (contents : List Content) → AreContents seen p types files contents → ⊥) (λ _. (folder : Folder) (p : Partitioner) (t : TableParts) → seen ≡ Some folder → IsTableOf folder p types files (map (λ (m : MemtableView). m.partitions) ms) t → ⊥) f
+    (λ damage none folder p t told is. none p (file_contents t) (table_contents seen folder p types files ms t told is)) no_false
 
-  pub table_listed : AllByRecursion (IsListedSource w.files files types) sources_all
-  table_listed =
-      both_are (λ o hs ss. AllByRecursion (IsListedSource o files types) ss)
-      (all_both (IsListedSource v.files files types) sources (map_sources ms) (opened_listed v.files types files files heads sources (each_among files) opened) (maps_listed v.files files types ms))
+-- nor a table whose keys have tokens of this partitioner
+pub no_false_key : (seen : Option Folder) (p : Partitioner) (types : List ColumnType) (files : List ListedFile) (ms : List MemtableView) (f : ReadFault)
+    → OnDamage (λ _. (q : Partitioner) (contents : List Content) → AreContents seen q types files contents → ⊥) f
+    → OnDamage (λ _. (folder : Folder) (t : TableParts) → seen ≡ Some folder → IsTableOf folder p types files (map (λ (m : MemtableView). m.partitions) ms) t → ⊥) f
+no_false_key seen p types files ms f no_false =
+    damage_as (λ _. (folder : Folder) (q : Partitioner) (t : TableParts) → seen ≡ Some folder → IsTableOf folder q types files (map (λ (m : MemtableView). m.partitions) ms) t → ⊥) (λ _. (folder : Folder) (t : TableParts) → seen ≡ Some folder → IsTableOf folder p types files (map (λ (m : MemtableView). m.partitions) ms) t → ⊥) f
+    (λ damage none folder t told is. none folder p t told is) (no_false_table seen types files ms f no_false)
 
-  table_left : (p : Partitioner) (contents : List Content) → AreContents v.files p types files contents → AreLeft w.files p heads_all sources_all (map (entries_of p) contents ++ map_entries ms)
-  table_left p contents have =
-      both_are (λ o hs ss. AreLeft o p hs ss (map (entries_of p) contents ++ map_entries ms))
-      (left_both v.files p heads sources (map (entries_of p) contents) (map_heads ms) (map_sources ms) (map_entries ms) (opened_left v.files types p files contents heads sources have opened) (maps_left v.files p ms))
+-- ---- the decorated key of a copy
 
-  table_rises : (p : Partitioner) (contents : List Content) → AreContents v.files p types files contents → AllByRecursion IsRising (map (entries_of p) contents ++ map_entries ms)
-  table_rises p contents have = all_both IsRising (map (entries_of p) contents) (map_entries ms) (contents_rise v.files p types files contents have) (maps_rise ms)
+pub copy_decorated : (p : Partitioner) (key : DecoratedKey) (bytes : List ℕ) → key ≡ decorated p bytes → key ≡ decorated p key.key
+copy_decorated p key bytes is = is ∙ ap (decorated p) (sym (ap (λ (k : DecoratedKey). k.key) is))
 
-  here : (folder : Folder) (p : Partitioner) (contents : List Content) → v.files ≡ Some folder → AreContents (Some folder) p types files contents → AreContents v.files p types files contents
-  here folder p contents told have = subst (λ (o : Option Folder). AreContents o p types files contents) (sym told) have
-
-  -- the rows of the merge are those of the table
-  pub table_printed : (query : RowQuery) (reply_old reply : List ℕ) (rows : ℕ) (folder : Folder) (p : Partitioner) (t : TableParts) → v.files ≡ Some folder → IsTableOf folder p types files (map (λ (m : MemtableView). m.partitions) ms) t
-      → ((q : Partitioner) (lefts : List Entries) → AreLeft w.files q heads_all sources_all lefts → AllByRecursion IsRising lefts → ArePrinted query (merged_entries lefts) reply_old reply rows)
-      → ArePrinted query (map_.entries (table_of t).partitions) reply_old reply rows
-  table_printed query reply_old reply rows folder p t told is printed =
-      let scanned = table_scanned folder p types files ms t is in
-      let have = here folder p scanned.contents told scanned.have in
-      subst (λ (es : Entries). ArePrinted query es reply_old reply rows) scanned.merge_is
-      (printed p (map (entries_of p) scanned.contents ++ map_entries ms) (table_left p scanned.contents have) (table_rises p scanned.contents have))
-
-  -- and where the files are those of the table, nothing is damaged
-  pub no_false_table : (f : ReadFault) → ((q : Partitioner) (lefts : List Entries) → AreLeft w.files q heads_all sources_all lefts → AllByRecursion IsRising lefts → OnDamage (λ _. ⊥) f)
-      → OnDamage (λ _. (folder : Folder) (p : Partitioner) (t : TableParts) → v.files ≡ Some folder → IsTableOf folder p types files (map (λ (m : MemtableView). m.partitions) ms) t → ⊥) f
-  no_false_table fault.Failed no_false = tt
-  no_false_table fault.OutOfMemory no_false = tt
-  no_false_table (fault.Damaged damage) no_false = λ folder p t told is.
-      let scanned = table_scanned folder p types files ms t is in
-      let have = here folder p scanned.contents told scanned.have in
-      no_false p (map (entries_of p) scanned.contents ++ map_entries ms) (table_left p scanned.contents have) (table_rises p scanned.contents have)
-
--- nor at their opening
-pub no_false_opening_table : (v : View) (types : List ColumnType) (files : List ListedFile) (maps : List Partitions) (ms : List MemtableView) (f : ReadFault) → maps ≡ map (λ (m : MemtableView). m.partitions) ms → OnDamage (λ _. (p : Partitioner) (contents : List Content) → AreContents v.files p types files contents → ⊥) f
-    → OnDamage (λ _. (folder : Folder) (p : Partitioner) (t : TableParts) → v.files ≡ Some folder → IsTableOf folder p types files maps t → ⊥) f
-no_false_opening_table v types files maps ms fault.Failed maps_are no_false = tt
-no_false_opening_table v types files maps ms fault.OutOfMemory maps_are no_false = tt
-no_false_opening_table v types files maps ms (fault.Damaged damage) maps_are no_false = λ folder p t told is.
-    let scanned = table_scanned folder p types files ms t (subst (λ (ps : List Partitions). IsTableOf folder p types files ps t) maps_are is) in
-    no_false p scanned.contents (subst (λ (o : Option Folder). AreContents o p types files scanned.contents) (sym told) scanned.have)
+pub copy_reads : (p : Partitioner) (key : DecoratedKey) (bytes : List ℕ) (contents : List Content) (before now : ℕ) → key ≡ decorated p bytes → now ≤ before + key_reads p key.key contents → now ≤ before + key_reads p bytes contents
+copy_reads p key bytes contents before now is reads = subst (λ (k : List ℕ). now ≤ before + key_reads p k contents) (ap (λ (k : DecoratedKey). k.key) is) reads

@@ -6,14 +6,11 @@ pub mod Answers
 pub mod MakesMoves
 pub mod Puts
 pub mod Writable
+pub mod Tables
+pub mod Printing
 pub mod Selects
-pub mod KeyLookups
 pub mod Steps
 pub mod Floors
 pub mod Numbers
 pub mod FlushDraws
 pub mod Flushing
-pub mod Sources
-pub mod Left
-pub mod Scanning
-pub mod Paging

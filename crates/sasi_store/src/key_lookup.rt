@@ -1,44 +1,40 @@
 // The row of one key.
-ghost use Rattle.std.specs.Prelude.{◌≡◌, ◌+◌, ◌++◌, ◌≤◌, ℕ, List, map as map_list, slice_get, IfErr, IfOk, IfSome, None, OnOk, Some};
+ghost use Rattle.std.specs.Prelude.{◌≡◌, ◌+◌, ◌++◌, ◌≤◌, ℕ, map as map_list, slice_get, IfErr, IfOk, IfSome, OnOk, Some};
 ghost use Rattle.std.specs.FinMap as map_;
 ghost use Rattle.std.specs.List.{AllByRecursion};
-ghost use Rattle.sasi_types.specs.declared.partitioner.Partitioner.{Partitioner as APartitioner};
 ghost use Rattle.sasi_types.specs.declared.column.ColumnType.{ColumnType};
 ghost use Rattle.sasi_host.specs.Damages.{OnDamage};
 ghost use Rattle.sasi_host.specs.Disk.{Changes, Same};
-ghost use Rattle.sasi_host.specs.Names.{Bytes, Folder, data_name};
-ghost use Rattle.sasi_host.specs.View.{IsThere, contents_in};
+ghost use Rattle.sasi_host.specs.Names.{Folder, data_name};
+ghost use Rattle.sasi_host.specs.View.{IsThere};
 ghost use Rattle.sasi_model.specs.Lines.{rows_lines};
 ghost use Rattle.sasi_model.specs.State.{decorated};
-ghost use Rattle.sasi_cells.specs.Maps.{joined};
-ghost use Rattle.sasi_datawrite.specs.Format.{Content};
-ghost use Rattle.sasi_dataread.specs.Damages.{ShowsDataFile};
 ghost use Rattle.sasi_memtable.specs.MemtableView.{AreDecorated, MemtableView};
 ghost use Rattle.sasi_machine.specs.TableRows.{AreStored, rows_picked};
 ghost use Rattle.sasi_machine.specs.Where.{key_asked, where_of};
 ghost use Rattle.sasi_manifest.specs.declared.files.ListedFile.{ListedFile as AListedFile};
 ghost use Rattle.sasi_layout.specs.Layout.{TableParts, table_of};
-ghost use Rattle.sasi_layout.specs.Shape.{map_of};
 ghost use Rattle.sasi_merge.specs.Merging.{with_token};
-ghost use Rattle.sasi_store.specs.KeyLookups.{entry_found, file_contents, find_reads, found_in, key_reads};
-ghost use Rattle.sasi_store.specs.Left.{ArePrinted};
-ghost use Rattle.sasi_store.specs.Scanning.{AreContents, HasContent, IsTableOf, ScanCauses};
+ghost use Rattle.sasi_scan.specs.Finding.{key_reads};
+ghost use Rattle.sasi_scan.specs.Parts.{ShowsListed};
+ghost use Rattle.sasi_scan.specs.Scanning.{ScanCauses};
+ghost use Rattle.sasi_store.specs.Printing.{ArePrinted, IsPrintable, entry_found};
 ghost use Rattle.sasi_store.specs.Selects.{KnowsWhere};
-ghost use Rattle.sasi_store.specs.Sources.{IsPrintable, ShowsListed};
+ghost use Rattle.sasi_store.specs.Tables.{IsTableOf, file_contents};
 
 use crate::query::print_row;
 use sasi_analyzers::Kit;
 use sasi_cells::Partition;
-use sasi_dataread::DataFile;
-use sasi_host::{Direct, FileName, Host, ReadFault};
+use sasi_host::{Host, ReadFault};
 use sasi_machine::{Reply, RowQuery};
 use sasi_manifest::ListedFile;
 use sasi_memtable::{Memtable, decorated};
+use sasi_scan::find_key;
 use sasi_types::{DecoratedKey, Key, Partitioner, TypeList};
 use std::alloc::{AllocError, Global};
 
 /// Prints the row of the key that is asked for, where it is there and accepted, and the number of rows, 0 or 1. It looks the key
-/// up in each listed data file and in each map in memory, the oldest first, and merges what they have of it.
+/// up in each listed data file and in each map in memory, the oldest first.
 pub fn print_key<H: Host>(
     alloc: Global,
     host: &mut H,
@@ -69,7 +65,7 @@ pub fn print_key<H: Host>(
     ensures changes { Changes Same (H.view host.old) (H.view host.new) }
     ensures causes { ScanCauses (H.view host.old) (H.view host.new) result }
 {
-    let found = find_key(alloc, host, files, types, maps, partitioner, key)?;
+    let found = find_in_table(alloc, host, files, types, maps, partitioner, key)?;
     let rows = print_found(alloc, kit, key, &found, query, reply)?;
     reply.count(rows)?;
     Ok(())
@@ -96,7 +92,7 @@ fn print_found(
 }
 
 // The partition of a key in a table, which is the merge of listed data files and of maps in memory, the oldest first.
-fn find_key<H: Host>(
+fn find_in_table<H: Host>(
     alloc: Global,
     host: &mut H,
     files: &[ListedFile],
@@ -117,8 +113,7 @@ fn find_key<H: Host>(
     ensures causes { ScanCauses (H.view host.old) (H.view host.new) result }
 {
     let key = decorated_copy(alloc, partitioner, key)?;
-    let in_files = find_in_files(alloc, host, files, types, &key)?;
-    let found = find_in_maps(alloc, maps, &key, in_files)?;
+    let found = find_key(alloc, host, files, types, maps, &key)?;
     Ok(found)
 }
 
@@ -134,100 +129,4 @@ fn decorated_copy(
         Ok(copy) => Ok(decorated(partitioner, copy)),
         Err(_) => Err(AllocError),
     }
-}
-
-// The merge of what data files have of a key, the oldest first.
-fn find_in_files<H: Host>(
-    alloc: Global,
-    host: &mut H,
-    files: &[ListedFile],
-    types: &TypeList,
-    key: &DecoratedKey,
-) -> Result<Option<Partition>, ReadFault>
-    requires { AllByRecursion (λ (f : AListedFile). IsThere (H.view host.old) (data_name f.number)) files.now }
-    ensures found { IfOk result (λ found. (p : APartitioner) (contents : List Content) → AreContents (H.view host.old).files p types.now files.now contents → key.now ≡ decorated p key.now.key → found ≡ found_in key.now None (map_list (map_of p) contents)) }
-    ensures printable { IfOk result (λ found. (kind : ColumnType) → slice_get types.now 0 ≡ Some kind → IfSome found (IsPrintable kind key.now.key)) }
-    ensures reads { (p : APartitioner) (contents : List Content) → AreContents (H.view host.old).files p types.now files.now contents → key.now ≡ decorated p key.now.key → (H.view host.new).reads ≤ (H.view host.old).reads + key_reads p key.now.key contents }
-    ensures damaged { IfErr result (OnDamage (ShowsListed (H.view host.old).files files.now types.now)) }
-    ensures undamaged { IfErr result (OnDamage (λ _. (p : APartitioner) (contents : List Content) → AreContents (H.view host.old).files p types.now files.now contents → ⊥)) }
-    ensures changes { Changes Same (H.view host.old) (H.view host.new) }
-    ensures causes { ScanCauses (H.view host.old) (H.view host.new) result }
-{
-    let mut found = None;
-    for file in files {
-        let part = find_in_file(alloc, host, file, types, key)?;
-        join(alloc, &mut found, part)?;
-    }
-    Ok(found)
-}
-
-// What a data file has of a key.
-fn find_in_file<H: Host>(
-    alloc: Global,
-    host: &mut H,
-    file: &ListedFile,
-    types: &TypeList,
-    key: &DecoratedKey,
-) -> Result<Option<Partition>, ReadFault>
-    requires { IsThere (H.view host.old) (data_name file.now.number) }
-    ensures found { IfOk result (λ found. (p : APartitioner) (content : Content) → HasContent (H.view host.old).files p types.now file.now content → key.now ≡ decorated p key.now.key → found ≡ map_.get (map_of p content) key.now) }
-    ensures printable { IfOk result (λ found. (kind : ColumnType) → slice_get types.now 0 ≡ Some kind → IfSome found (IsPrintable kind key.now.key)) }
-    ensures reads { (p : APartitioner) (content : Content) → HasContent (H.view host.old).files p types.now file.now content → key.now ≡ decorated p key.now.key → (H.view host.new).reads ≤ (H.view host.old).reads + find_reads p key.now.key content }
-    ensures damaged { IfErr result (OnDamage (λ damage. (bytes : Bytes) → contents_in (H.view host.old).files (data_name file.now.number) ≡ Some bytes → ShowsDataFile types.now (data_name file.now.number) bytes damage)) }
-    ensures undamaged { IfErr result (OnDamage (λ _. (p : APartitioner) (content : Content) → HasContent (H.view host.old).files p types.now file.now content → ⊥)) }
-    ensures changes { Changes Same (H.view host.old) (H.view host.new) }
-    ensures causes { ScanCauses (H.view host.old) (H.view host.new) result }
-{
-    let name = FileName::data(file.number);
-    let opened = DataFile::open(alloc, host, &mut Direct, name, types)?;
-    let found = opened.find(alloc, host, &mut Direct, key.token, &key.key)?;
-    Ok(found)
-}
-
-// Merges what maps in memory have of a key onto what was found, the oldest first.
-fn find_in_maps(
-    alloc: Global,
-    maps: &[Memtable],
-    key: &DecoratedKey,
-    found: Option<Partition>,
-) -> Result<Option<Partition>, AllocError>
-    ensures { IfOk result (λ all. all ≡ found_in key.now found (map_list (λ (m : MemtableView). m.partitions) maps.now)) }
-{
-    let mut all = found;
-    for map in maps {
-        let part = find_in_map(alloc, map, key)?;
-        join(alloc, &mut all, part)?;
-    }
-    Ok(all)
-}
-
-// A copy of what a map in memory has of a key.
-fn find_in_map(
-    alloc: Global,
-    map: &Memtable,
-    key: &DecoratedKey,
-) -> Result<Option<Partition>, AllocError>
-    ensures { IfOk result (λ found. found ≡ map_.get map.now.partitions key.now) }
-{
-    match map.get(key) {
-        Some(part) => Ok(Some(part.copy(alloc)?)),
-        None => Ok(None),
-    }
-}
-
-// Merges what a later part of a table has of a key.
-fn join(
-    alloc: Global,
-    found: &mut Option<Partition>,
-    later: Option<Partition>,
-) -> Result<(), AllocError>
-    ensures { OnOk result (found.new ≡ joined found.old later) }
-{
-    let Some(later) = later else {
-        return Ok(());
-    };
-    let mut merged = found.take().unwrap_or(Partition::new(alloc));
-    merged.merge_from(later)?;
-    *found = Some(merged);
-    Ok(())
 }

@@ -17,10 +17,10 @@ ghost use Rattle.sasi_manifest.specs.declared.files.ListedFile.{ListedFile as AL
 ghost use Rattle.sasi_memtable.specs.MemtableView.{AreDecorated, MemtableView};
 ghost use Rattle.sasi_model.specs.Lines.{rows_lines};
 ghost use Rattle.sasi_store.specs.Faults.{OnMissing, OnSpent, OnStepDamage, StepCauses};
-ghost use Rattle.sasi_store.specs.KeyLookups.{rows_reads, selection_reads};
-ghost use Rattle.sasi_store.specs.Scanning.{IsTableOf, ScanCauses};
-ghost use Rattle.sasi_store.specs.Selects.{IsSelectable, KnowsWhere};
-ghost use Rattle.sasi_store.specs.Sources.{ShowsListed};
+ghost use Rattle.sasi_scan.specs.Parts.{ShowsListed};
+ghost use Rattle.sasi_scan.specs.Scanning.{ScanCauses};
+ghost use Rattle.sasi_store.specs.Selects.{IsSelectable, KnowsWhere, rows_reads, selection_reads};
+ghost use Rattle.sasi_store.specs.Tables.{IsTableOf};
 ghost use Rattle.sasi_store.specs.StoreView.{IsOfParts, memory_of};
 
 use crate::StepFault;

@@ -1,8 +1,7 @@
 use Rattle.std.proofs.Common.{IfOk, ℕ, Option, subst, sym}
 use Rattle.sasi_model.specs.Cells.{Partition}
 use Rattle.sasi_merge.specs.Merging.{with_token}
-use Rattle.sasi_store.specs.KeyLookups.{entry_found}
-use Rattle.sasi_store.specs.Left.{ArePrinted}
+use Rattle.sasi_store.specs.Printing.{ArePrinted, entry_found}
 use Rattle.sasi_store.proofs.key_lookup.print_found.Goals as goal
 
 pub returns-in-Some-clause-printed : goal.returns-in-Some-clause-printed

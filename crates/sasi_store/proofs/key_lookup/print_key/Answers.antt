@@ -1,8 +1,8 @@
 use Rattle.std.proofs.lemmas.Result.{err_from_is_err_and}
 use Rattle.sasi_layout.specs.Layout.{table_of}
 use Rattle.sasi_types.specs.Token.{token_of}
-use Rattle.sasi_store.proofs.Costs.{causes_memory, causes_of_fault, causes_ok}
-use Rattle.sasi_store.proofs.KeyLookups.{table_decorated}
+use Rattle.sasi_scan.proofs.Costs.{causes_memory, causes_of_fault, causes_ok}
+use Rattle.sasi_store.proofs.Tables.{table_decorated}
 use Rattle.sasi_store.proofs.KeyRows.{key_answer}
 use Rattle.sasi_store.proofs.key_lookup.print_key.Goals as goal
 

@@ -1,8 +1,8 @@
 use Rattle.std.proofs.Common.{◌+◌, ◌≤◌, List, ℕ, Option, subst}
 use Rattle.sasi_manifest.specs.declared.files.ListedFile.{ListedFile}
-use Rattle.sasi_store.specs.KeyLookups.{rows_reads}
-use Rattle.sasi_store.specs.Paging.{table_reads}
-use Rattle.sasi_store.proofs.Costs.{damage_err, ok_as}
+use Rattle.sasi_scan.specs.Paging.{table_reads}
+use Rattle.sasi_scan.proofs.Costs.{damage_err, ok_as}
+use Rattle.sasi_store.specs.Selects.{rows_reads}
 use Rattle.sasi_store.proofs.select.print_rows.Goals as goal
 
 pub returns-in-None-clause-ok : goal.returns-in-None-clause-ok

@@ -16,7 +16,7 @@ use Rattle.sasi_store.proofs.HeldChanges.{has_map}
 use Rattle.sasi_store.proofs.Selecting.{HasQuery, HasTable, asked_of, can_ask, files_there, in_memory, is_printed, key_first, looked_up, maps_decorated, maps_stored, none_lacks, on_damage, shows_folder, where_known}
 use Rattle.sasi_store.specs.Held.{HasMapFor, held_of}
 use Rattle.sasi_store.specs.Selects.{KnowsWhere}
-use Rattle.sasi_store.specs.Sources.{ShowsListed}
+use Rattle.sasi_scan.specs.Parts.{ShowsListed}
 use Rattle.sasi_store.specs.StoreView.{wanted_of}
 use Rattle.sasi_store.specs.declared.table_maps.TableMaps.{TableMaps}
 use Rattle.std.specs.List.{AllByRecursion}

@@ -1,0 +1,8 @@
+pub mod Costs
+mod Steps
+mod Moves
+mod Advancing
+pub mod Openings
+pub mod Pages
+pub mod KeyLookups
+mod KeyFinding

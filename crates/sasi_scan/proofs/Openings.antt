@@ -1,0 +1,338 @@
+-- Opened sources: they can go on, their files are listed, and they have what their files and maps have.
+use Rattle.std.proofs.Common.{◌≡◌, ◌+◌, ◌<◌, ◌≤◌, ◌&&◌, ℕ, suc, zero, Bool, true, false, T, List, [], ◌∷◌, ◌++◌, drop, length, map, take, get_or, slice_get, Option, None, Some, IsSome, refl, sym, ap, subst, ◌∙◌, arith, add-one, append_assoc}
+use Rattle.std.proofs.Math.Seq.{drop-cons}
+use Rattle.std.proofs.lemmas.List.{append-nil}
+use Rattle.std.specs.List.{AllByRecursion, Contains}
+use Rattle.std.specs.FinMap as map_
+use Rattle.std.specs.FinMap.Entries.{below_all}
+use Rattle.std.specs.List.Sorted.{IsStrictlySortedBy}
+use Rattle.std.specs.Ordering.{is_lt}
+use Rattle.std.specs.declared.cmp.Ordering.TheVariants.{Less}
+use Rattle.sasi_types.specs.declared.column.ColumnType.{ColumnType}
+use Rattle.sasi_types.specs.declared.decorated_key.DecoratedKey.{DecoratedKey}
+use Rattle.sasi_types.specs.declared.partitioner.Partitioner.{Partitioner}
+use Rattle.sasi_types.specs.DecoratedKey.{decorated_cmp}
+use Rattle.sasi_model.specs.State.{decorated}
+use Rattle.sasi_cells.proofs.Laws.Decorated.{entries_have}
+use Rattle.sasi_host.specs.declared.fault.ReadFault.{ReadFault}
+use Rattle.sasi_host.specs.declared.fault.ReadFault.TheVariants as fault
+use Rattle.sasi_host.specs.Damages.{OnDamage}
+use Rattle.sasi_host.specs.Names.{Bytes, Folder, data_name}
+use Rattle.sasi_host.specs.Disk.{Changes, Same}
+use Rattle.sasi_host.specs.View.{IsThere, View, contents_in}
+use Rattle.sasi_datawrite.specs.Format.{Content, decorated_key}
+use Rattle.sasi_dataread.specs.Damages.{ShowsDataFile}
+use Rattle.sasi_dataread.specs.Scans.{DataScan}
+use Rattle.sasi_manifest.specs.declared.files.ListedFile.{ListedFile}
+use Rattle.sasi_memtable.specs.MemtableView.{MemtableView}
+use Rattle.sasi_merge.specs.Merging.{Head}
+use Rattle.sasi_merge.specs.Streams.{Entries, IsRising, behind, head_of}
+use Rattle.sasi_scan.specs.declared.source.Source.{Source}
+use Rattle.sasi_scan.specs.declared.source.Source.TheVariants.{File, Map}
+use Rattle.sasi_scan.specs.Parts.{AreContents, HasContent, IsOfPart, ShowsListed, entries_of, of_map, merged_parts, part_entries}
+use Rattle.sasi_scan.specs.Sources.{AreOfPart, CanStep, IsHeadOf, IsListedSource, IsSourceOf, StepsTo}
+use Rattle.sasi_scan.specs.Left.{AreLeft}
+use Rattle.sasi_scan.specs.Opening.{AreOpened, IsAdded, IsOpened, IsOpenedFile}
+use Rattle.sasi_scan.specs.Scanning.{CanScan, IsScanOf, IsScanning, scan_of}
+use Rattle.sasi_scan.proofs.Costs.{damage_as, reads_same}
+use Rattle.sasi_scan.proofs.Moves.{all_at, got}
+use Rattle.sasi_scan.proofs.Steps.{map_of_part, steps_can, steps_left, steps_listed, steps_of}
+
+-- ---- one file more
+
+opened_push : (seen : Option Folder) (types : List ColumnType) (files : List ListedFile) (file : ListedFile) (heads : List Head) (sources : List Source) (head : Head) (source : Source) → AreOpened seen types files heads sources → IsOpened seen types file head source → AreOpened seen types (files ++ file ∷ []) (heads ++ head ∷ []) (sources ++ source ∷ [])
+opened_push seen types [] file heads sources head source are is =
+    subst (λ (hs : List Head). AreOpened seen types (file ∷ []) (hs ++ head ∷ []) (sources ++ source ∷ [])) (sym are.0)
+    (subst (λ (ss : List Source). AreOpened seen types (file ∷ []) (head ∷ []) (ss ++ source ∷ [])) (sym are.1) (is, (refl, refl)))
+opened_push seen types (f ∷ files) file (h ∷ heads) (s ∷ sources) head source are is = (are.0, opened_push seen types files file heads sources head source are.1 is)
+opened_push seen types (f ∷ files) file [] sources head source are is = absurd are
+opened_push seen types (f ∷ files) file (h ∷ heads) [] head source are is = absurd are
+
+opened_more : (seen : Option Folder) (types : List ColumnType) (files : List ListedFile) (file : ListedFile) (heads : List Head) (sources : List Source) (heads_new : List Head) (sources_new : List Source) → AreOpened seen types files heads sources → IsAdded (IsOpened seen types file) heads sources heads_new sources_new → AreOpened seen types (files ++ file ∷ []) heads_new sources_new
+opened_more seen types files file heads sources heads_new sources_new are added =
+    subst (λ (hs : List Head). AreOpened seen types (files ++ file ∷ []) hs sources_new) (sym added.heads_are)
+    (subst (λ (ss : List Source). AreOpened seen types (files ++ file ∷ []) (heads ++ added.head ∷ []) ss) (sym added.sources_are)
+    (opened_push seen types files file heads sources added.head added.source are added.is))
+
+-- ---- opened files
+
+opened_can : (seen : Option Folder) (types : List ColumnType) (files : List ListedFile) (heads : List Head) (sources : List Source) → AreOpened seen types files heads sources → CanScan seen (scan_of heads sources)
+opened_can seen types [] heads sources are =
+    subst (λ (hs : List Head). CanScan seen (scan_of hs sources)) (sym are.0) (subst (λ (ss : List Source). CanScan seen (scan_of [] ss)) (sym are.1) (record { can = tt; counted = refl }))
+opened_can seen types (f ∷ files) (h ∷ heads) (s ∷ sources) are =
+    let rest = opened_can seen types files heads sources are.1 in
+    record { can = (steps_can seen (File are.0.scan) h s are.0.steps, rest.can); counted = ap (λ n. suc n) rest.counted }
+opened_can seen types (f ∷ files) [] sources are = absurd are
+opened_can seen types (f ∷ files) (h ∷ heads) [] are = absurd are
+
+-- in any file, what they have left is of the parts
+record AllOf (types : List ColumnType) (maps : List MemtableView) (heads : List Head) (sources : List Source) : Type 0 where
+  pub sources_of : AllByRecursion (IsSourceOf types maps) sources
+  pub heads_of : AllByRecursion (IsHeadOf types maps) heads
+
+opened_of : (seen : Option Folder) (types : List ColumnType) (maps : List MemtableView) (files : List ListedFile) (heads : List Head) (sources : List Source) → AreOpened seen types files heads sources → AllOf types maps heads sources
+opened_of seen types maps [] heads sources are =
+    subst (λ (hs : List Head). AllOf types maps hs sources) (sym are.0) (subst (λ (ss : List Source). AllOf types maps [] ss) (sym are.1) (record { sources_of = tt; heads_of = tt }))
+opened_of seen types maps (f ∷ files) (h ∷ heads) (s ∷ sources) are =
+    let rest = opened_of seen types maps files heads sources are.1 in
+    let one = steps_of seen types maps (File are.0.scan) h s are.0.steps are.0.is.types_are in
+    record { sources_of = (one.source_of_part, rest.sources_of); heads_of = (one.head_of_part, rest.heads_of) }
+opened_of seen types maps (f ∷ files) [] sources are = absurd are
+opened_of seen types maps (f ∷ files) (h ∷ heads) [] are = absurd are
+
+opened_listed : (seen : Option Folder) (types : List ColumnType) (all files : List ListedFile) (heads : List Head) (sources : List Source) → AllByRecursion (λ f. Contains all f) files → AreOpened seen types files heads sources → AllByRecursion (IsListedSource seen all types) sources
+opened_listed seen types all [] heads sources among are = subst (AllByRecursion (IsListedSource seen all types)) (sym are.1) tt
+opened_listed seen types all (f ∷ files) (h ∷ heads) (s ∷ sources) among are =
+    let one = are.0 in (
+      steps_listed seen all types (File one.scan) h s one.steps (record { file = f; listed = among.0; named = one.is.named; types_are = one.is.types_are; footer = one.is.footer }),
+      opened_listed seen types all files heads sources among.1 are.1,
+    )
+opened_listed seen types all (f ∷ files) [] sources among are = absurd are
+opened_listed seen types all (f ∷ files) (h ∷ heads) [] among are = absurd are
+
+opened_left : (seen : Option Folder) (types : List ColumnType) (p : Partitioner) (files : List ListedFile) (contents : List Content) (heads : List Head) (sources : List Source) → AreContents seen p types files contents → AreOpened seen types files heads sources → AreLeft seen p heads sources (map (entries_of p) contents)
+opened_left seen types p [] [] heads sources have are =
+    subst (λ (hs : List Head). AreLeft seen p hs sources []) (sym are.0) (are.1, refl)
+opened_left seen types p (f ∷ files) (content ∷ contents) (h ∷ heads) (s ∷ sources) have are =
+    let one = are.0 in
+    let open_in = one.is.opened p content have.0 in
+    let gives = steps_left seen p (File one.scan) (entries_of p content) h s (record { content = content; is = open_in; left_is = sym (ap (λ n. entries_of p (drop n content)) one.is.begins) }) one.steps in
+    (record { head_is = gives.head_is; behind_it = gives.behind_it }, opened_left seen types p files contents heads sources have.1 are.1)
+opened_left seen types p (f ∷ files) (content ∷ contents) [] sources have are = absurd are
+opened_left seen types p (f ∷ files) (content ∷ contents) (h ∷ heads) [] have are = absurd are
+opened_left seen types p [] (content ∷ contents) heads sources have are = absurd have
+opened_left seen types p (f ∷ files) [] heads sources have are = absurd have
+
+-- each file is one of all
+contains_first : {X : Type 0} (x : X) (xs : List X) → Contains (x ∷ xs) x
+contains_first x xs = (zero, omega arith, refl)
+
+contains_behind : {X : Type 0} (y : X) (xs : List X) (x : X) → Contains xs x → Contains (y ∷ xs) x
+contains_behind y xs x there = (suc there.0, omega (arith, there.1), there.2)
+
+pub each_among : {X : Type 0} (xs : List X) → AllByRecursion (λ x. Contains xs x) xs
+each_among [] = tt
+each_among (x ∷ xs) = (contains_first x xs, further xs (each_among xs))
+  where
+    further : (ys : _) → AllByRecursion (λ y. Contains xs y) ys → AllByRecursion (λ y. Contains (x ∷ xs) y) ys
+    further [] all = tt
+    further (y ∷ ys) all = (contains_behind x xs y all.0, further ys all.1)
+
+-- ---- maps
+
+abbrev pub map_heads : List MemtableView → List Head
+map_heads = map (λ (m : MemtableView). head_of (map_.entries m.partitions))
+
+abbrev pub map_sources : List MemtableView → List Source
+map_sources = map (λ (m : MemtableView). Map (behind (map_.entries m.partitions)))
+
+abbrev map_entries : List MemtableView → List Entries
+map_entries = map (λ (m : MemtableView). map_.entries m.partitions)
+
+maps_can : (seen : Option Folder) (maps : List MemtableView) → CanScan seen (scan_of (map_heads maps) (map_sources maps))
+maps_can seen [] = record { can = tt; counted = refl }
+maps_can seen (m ∷ maps) = let rest = maps_can seen maps in record { can = (tt, rest.can); counted = ap (λ n. suc n) rest.counted }
+
+map_of_parts : (types : List ColumnType) (all : List MemtableView) (m : MemtableView) → Contains all m → AreOfPart types all (map_.entries m.partitions)
+map_of_parts types all m among = entries_have (λ entry. IsOfPart types all entry.0.key entry.1) m.partitions (λ q part is. of_map m q among is refl)
+
+maps_of_parts : (types : List ColumnType) (all maps : List MemtableView) → AllByRecursion (λ m. Contains all m) maps → AllOf types all (map_heads maps) (map_sources maps)
+maps_of_parts types all [] among = record { sources_of = tt; heads_of = tt }
+maps_of_parts types all (m ∷ maps) among =
+    let rest = maps_of_parts types all maps among.1 in
+    let one = map_of_part types all (map_.entries m.partitions) (map_of_parts types all m among.0) in
+    record { sources_of = (one.source_of_part, rest.sources_of); heads_of = (one.head_of_part, rest.heads_of) }
+
+maps_listed : (seen : Option Folder) (files : List ListedFile) (types : List ColumnType) (maps : List MemtableView) → AllByRecursion (IsListedSource seen files types) (map_sources maps)
+maps_listed seen files types [] = tt
+maps_listed seen files types (m ∷ maps) = (tt, maps_listed seen files types maps)
+
+maps_left : (seen : Option Folder) (p : Partitioner) (maps : List MemtableView) → AreLeft seen p (map_heads maps) (map_sources maps) (map_entries maps)
+maps_left seen p [] = (refl, refl)
+maps_left seen p (m ∷ maps) = (record { head_is = refl; behind_it = refl }, maps_left seen p maps)
+
+-- ---- both
+
+all_both : {X : Type 0} (P : X → Type 0) (xs ys : List X) → AllByRecursion P xs → AllByRecursion P ys → AllByRecursion P (xs ++ ys)
+all_both P [] ys first second = second
+all_both P (x ∷ xs) ys first second = (first.0, all_both P xs ys first.1 second)
+
+length_both : {X Y : Type 0} (xs ys : List X) (us vs : List Y) → length xs ≡ length us → length ys ≡ length vs → length (xs ++ ys) ≡ length (us ++ vs)
+length_both [] ys [] vs first second = second
+length_both [] ys (u ∷ us) vs first second = absurd (omega (arith, first))
+length_both (x ∷ xs) ys [] vs first second = absurd (omega (arith, first))
+length_both (x ∷ xs) ys (u ∷ us) vs first second = ap (λ n. suc n) (length_both xs ys us vs (omega (arith, first)) second)
+
+can_both : (seen : Option Folder) (heads : List Head) (sources : List Source) (heads_more : List Head) (sources_more : List Source) → CanScan seen (scan_of heads sources) → CanScan seen (scan_of heads_more sources_more) → CanScan seen (scan_of (heads ++ heads_more) (sources ++ sources_more))
+can_both seen heads sources heads_more sources_more first second = record {
+  can = all_both (CanStep seen) sources sources_more first.can second.can;
+  counted = length_both heads heads_more sources sources_more first.counted second.counted;
+}
+
+left_both : (seen : Option Folder) (p : Partitioner) (heads : List Head) (sources : List Source) (lefts : List Entries) (heads_more : List Head) (sources_more : List Source) (lefts_more : List Entries) → AreLeft seen p heads sources lefts → AreLeft seen p heads_more sources_more lefts_more → AreLeft seen p (heads ++ heads_more) (sources ++ sources_more) (lefts ++ lefts_more)
+left_both seen p [] sources lefts heads_more sources_more lefts_more first second =
+    subst (λ (ss : List Source). AreLeft seen p heads_more (ss ++ sources_more) (lefts ++ lefts_more)) (sym first.0)
+    (subst (λ (ls : List Entries). AreLeft seen p heads_more sources_more (ls ++ lefts_more)) (sym first.1) second)
+left_both seen p (h ∷ heads) (s ∷ sources) (left ∷ lefts) heads_more sources_more lefts_more first second = (first.0, left_both seen p heads sources lefts heads_more sources_more lefts_more first.1 second)
+left_both seen p (h ∷ heads) [] lefts heads_more sources_more lefts_more first second = absurd first
+left_both seen p (h ∷ heads) (s ∷ sources) [] heads_more sources_more lefts_more first second = absurd first
+
+-- ---- they rise
+
+less_true : (k q : DecoratedKey) → decorated_cmp k q ≡ Less → T (is_lt (decorated_cmp k q))
+less_true k q less = subst (λ r. T (is_lt r)) (sym less) tt
+
+pair_true : (a b : Bool) → T a → T b → T (a && b)
+pair_true true b first second = second
+pair_true false b first second = first
+
+content_below : (p : Partitioner) (k : DecoratedKey) (content : Content) → AllByRecursion (λ q. decorated_cmp k q ≡ Less) (map (decorated_key p) content) → T (below_all decorated_cmp k (entries_of p content))
+content_below p k [] below = tt
+content_below p k (one ∷ content) below = pair_true _ _ (less_true k (decorated p one.0) below.0) (content_below p k content below.1)
+
+pub content_rises : (p : Partitioner) (content : Content) → IsStrictlySortedBy decorated_cmp (map (decorated_key p) content) → IsRising (entries_of p content)
+unfolding IsStrictlySortedBy
+content_rises p [] rising = tt
+content_rises p (one ∷ content) rising = pair_true _ _ (content_below p (decorated p one.0) content rising.0) (content_rises p content rising.1)
+
+contents_rise : (seen : Option Folder) (p : Partitioner) (types : List ColumnType) (files : List ListedFile) (contents : List Content) → AreContents seen p types files contents → AllByRecursion IsRising (map (entries_of p) contents)
+contents_rise seen p types [] [] have = tt
+contents_rise seen p types (f ∷ files) (content ∷ contents) have = (content_rises p content have.0.data_file.content_is.rising, contents_rise seen p types files contents have.1)
+contents_rise seen p types [] (content ∷ contents) have = absurd have
+contents_rise seen p types (f ∷ files) [] have = absurd have
+
+maps_rise : (maps : List MemtableView) → AllByRecursion IsRising (map_entries maps)
+maps_rise [] = tt
+maps_rise (m ∷ maps) = (map_.entries_sorted m.partitions, maps_rise maps)
+
+-- ---- the sources of a scan, once all are opened
+
+module _ (seen : Option Folder) (types : List ColumnType) (files : List ListedFile) (ms : List MemtableView) (heads : List Head) (sources : List Source) (heads_all : List Head) (sources_all : List Source) (opened : AreOpened seen types files heads sources) (heads_are : heads_all ≡ heads ++ map_heads ms) (sources_are : sources_all ≡ sources ++ map_sources ms) where
+  -- what is true of both is true of all
+  both_are : (P : List Head → List Source → Type 0) → P (heads ++ map_heads ms) (sources ++ map_sources ms) → P heads_all sources_all
+  both_are P is = subst (λ (hs : List Head). P hs sources_all) (sym heads_are) (subst (λ (ss : List Source). P (heads ++ map_heads ms) ss) (sym sources_are) is)
+
+  pub scan_can : CanScan seen (scan_of heads_all sources_all)
+  scan_can = both_are (λ hs ss. CanScan seen (scan_of hs ss)) (can_both seen heads sources (map_heads ms) (map_sources ms) (opened_can seen types files heads sources opened) (maps_can seen ms))
+
+  pub scan_is_of : IsScanOf seen files types ms (scan_of heads_all sources_all)
+  scan_is_of =
+      let first = opened_of seen types ms files heads sources opened in
+      let second = maps_of_parts types ms ms (each_among ms) in
+      both_are (λ hs ss. IsScanOf seen files types ms (scan_of hs ss)) (record {
+        listed = all_both (IsListedSource seen files types) sources (map_sources ms) (opened_listed seen types files files heads sources (each_among files) opened) (maps_listed seen files types ms);
+        sources_of = all_both (IsSourceOf types ms) sources (map_sources ms) first.sources_of second.sources_of;
+        heads_of = all_both (IsHeadOf types ms) heads (map_heads ms) first.heads_of second.heads_of;
+      })
+
+  -- the whole merge is left
+  pub scan_begins : (p : Partitioner) (contents : List Content) → AreContents seen p types files contents → IsScanning seen p (scan_of heads_all sources_all) (map_.entries (merged_parts p contents ms))
+  scan_begins p contents have = record {
+    each = part_entries p contents ms;
+    each_is = both_are (λ hs ss. AreLeft seen p hs ss (part_entries p contents ms)) (
+        left_both seen p heads sources (map (entries_of p) contents) (map_heads ms) (map_sources ms) (map_entries ms) (opened_left seen types p files contents heads sources have opened) (maps_left seen p ms));
+    rising = all_both IsRising (map (entries_of p) contents) (map_entries ms) (contents_rise seen p types files contents have) (maps_rise ms);
+    is = refl;
+  }
+
+-- ---- damage
+
+-- what one of the listed files shows
+file_shown : (seen : Option Folder) (files : List ListedFile) (types : List ColumnType) (file : ListedFile) (f : ReadFault) → Contains files file → OnDamage (λ damage. (bytes : Bytes) → contents_in seen (data_name file.number) ≡ Some bytes → ShowsDataFile types (data_name file.number) bytes damage) f → OnDamage (ShowsListed seen files types) f
+file_shown seen files types file fault.Failed among shown = tt
+file_shown seen files types file fault.OutOfMemory among shown = tt
+file_shown seen files types file (fault.Damaged damage) among shown = record { file = file; listed = among; shown = shown }
+
+-- a listed file at a position has a content
+pub content_at : (seen : Option Folder) (p : Partitioner) (types : List ColumnType) (files : List ListedFile) (contents : List Content) (at : ℕ) (file : ListedFile) → AreContents seen p types files contents → slice_get files at ≡ Some file → (content : Content) × HasContent seen p types file content
+content_at seen p types [] contents at file have is = absurd (let no : None ≡ Some file = is in cc)
+content_at seen p types (f ∷ files) (content ∷ contents) zero file have is = (content, (let same : f ≡ file = cc in subst (λ (x : ListedFile). HasContent seen p types x content) same have.0))
+content_at seen p types (f ∷ files) (content ∷ contents) (suc at) file have is = content_at seen p types files contents at file have.1 is
+content_at seen p types (f ∷ files) [] at file have is = absurd have
+
+-- ---- an opened file with its first step, and reads between
+
+pub added_file : (v w : View) (types : List ColumnType) (file : ListedFile) (scan : DataScan) (head : Head) (after : Source) (heads : List Head) (sources : List Source) (heads_new : List Head) (sources_new : List Source) → Changes Same v w → IsOpenedFile v.files types file scan → StepsTo w.files (File scan) head after → heads_new ≡ heads ++ head ∷ [] → sources_new ≡ sources ++ after ∷ [] → IsAdded (IsOpened v.files types file) heads sources heads_new sources_new
+added_file v w types file scan head after heads sources heads_new sources_new change is steps heads_are sources_are = record {
+  head = head;
+  source = after;
+  is = record { scan = scan; is = is; steps = subst (λ (o : Option Folder). StepsTo o (File scan) head after) (reads_same v w change) steps };
+  heads_are = heads_are;
+  sources_are = sources_are;
+}
+
+-- the next file was added, behind reads
+pub added_next : (v w : View) (types : List ColumnType) (files : List ListedFile) (at : ℕ) (file : ListedFile) (heads : List Head) (sources : List Source) (heads_new : List Head) (sources_new : List Source) → Changes Same v w → at < length files → file ≡ get_or files at file → AreOpened v.files types (take at files) heads sources → IsAdded (IsOpened w.files types file) heads sources heads_new sources_new → AreOpened v.files types (take (at + 1) files) heads_new sources_new
+added_next v w types files at file heads sources heads_new sources_new change inside is are added =
+    subst (λ (fs : List ListedFile). AreOpened v.files types fs heads_new sources_new) (sym (take_next files at file inside is))
+    (opened_more v.files types (take at files) file heads sources heads_new sources_new are
+    (subst (λ (o : Option Folder). IsAdded (IsOpened o types file) heads sources heads_new sources_new) (reads_same v w change) added))
+  where
+    take_next : (xs : List ListedFile) (n : ℕ) (x : ListedFile) → n < length xs → x ≡ get_or xs n x → take (n + 1) xs ≡ take n xs ++ x ∷ []
+    take_next [] n x short same = absurd (omega arith)
+    take_next (y ∷ ys) zero x short same = ap (λ (z : ListedFile). z ∷ []) (sym same)
+    take_next (y ∷ ys) (suc n) x short same =
+        let later : suc n + 1 ≡ suc (n + 1) = omega arith in
+        ap (λ (k : ℕ). take k (y ∷ ys)) later ∙ ap (λ (zs : List ListedFile). y ∷ zs) (take_next ys n x (omega arith) same)
+
+-- ---- damage of the next file, behind reads
+
+pub next_shown : (v w : View) (types : List ColumnType) (files : List ListedFile) (at : ℕ) (file : ListedFile) (f : ReadFault) → Changes Same v w → at < length files → file ≡ get_or files at file → OnDamage (λ damage. (bytes : Bytes) → contents_in w.files (data_name file.number) ≡ Some bytes → ShowsDataFile types (data_name file.number) bytes damage) f → OnDamage (ShowsListed v.files files types) f
+next_shown v w types files at file f change inside is shown =
+    file_shown v.files files types file f (at, inside, sym is)
+    (subst (λ (o : Option Folder). OnDamage (λ damage. (bytes : Bytes) → contents_in o (data_name file.number) ≡ Some bytes → ShowsDataFile types (data_name file.number) bytes damage) f) (reads_same v w change) shown)
+
+pub no_false_next : (v w : View) (types : List ColumnType) (files : List ListedFile) (at : ℕ) (file : ListedFile) (f : ReadFault) → Changes Same v w → at < length files → file ≡ get_or files at file → OnDamage (λ _. (p : Partitioner) (content : Content) → HasContent w.files p types file content → ⊥) f → OnDamage (λ _. (p : Partitioner) (contents : List Content) → AreContents v.files p types files contents → ⊥) f
+no_false_next v w types files at file f change inside is no_false =
+    damage_as (λ _. (p : Partitioner) (content : Content) → HasContent w.files p types file content → ⊥) (λ _. (p : Partitioner) (contents : List Content) → AreContents v.files p types files contents → ⊥) f
+    (λ damage none p contents have.
+    let one = content_at v.files p types files contents at file have (got files at file inside is) in
+    none p one.0 (subst (λ (o : Option Folder). HasContent o p types file one.0) (sym (reads_same v w change)) one.1))
+    no_false
+
+-- the listed file is there, behind reads
+pub still_there : (v w : View) (files : List ListedFile) (at : ℕ) (file : ListedFile) → Changes Same v w → at < length files → file ≡ get_or files at file → AllByRecursion (λ (f : ListedFile). IsThere v (data_name f.number)) files → IsThere w (data_name file.number)
+still_there v w files at file change inside is there =
+    subst (λ (o : Option Folder). IsSome o → IsSome (contents_in o (data_name file.number))) (sym (reads_same v w change))
+    (all_at (λ (f : ListedFile). IsThere v (data_name f.number)) files at file there (got files at file inside is))
+
+-- all files were opened
+pub opened_all : (seen : Option Folder) (types : List ColumnType) (files : List ListedFile) (at : ℕ) (heads : List Head) (sources : List Source) → length files ≤ at → AreOpened seen types (take at files) heads sources → AreOpened seen types files heads sources
+opened_all seen types files at heads sources most are = subst (λ (fs : List ListedFile). AreOpened seen types fs heads sources) (whole files at most) are
+  where
+    whole : (xs : List ListedFile) (n : ℕ) → length xs ≤ n → take n xs ≡ xs
+    whole [] zero most = refl
+    whole [] (suc n) most = refl
+    whole (x ∷ xs) zero most = absurd (omega (arith, most))
+    whole (x ∷ xs) (suc n) most = ap (λ ys. x ∷ ys) (whole xs n (omega (arith, most)))
+
+-- ---- maps, one after another
+
+module _ {X Y : Type 0} (f : X → Y) where
+  -- one more of them
+  map_next : (xs : List X) (at : ℕ) (x : X) (ys new all : List Y) → at < length xs → x ≡ get_or xs at x → new ≡ ys ++ f x ∷ [] → ys ++ map f (drop at xs) ≡ all → new ++ map f (drop (at + 1) xs) ≡ all
+  map_next xs at x ys new all inside is pushed so_far =
+      let next : drop at xs ≡ x ∷ drop (at + 1) xs = rw (add-one, drop-cons xs at x inside, ← is) refl in
+      ap (λ (l : List Y). l ++ map f (drop (at + 1) xs)) pushed ∙ append_assoc ys (f x ∷ []) (map f (drop (at + 1) xs)) ∙ ap (λ (l : List X). ys ++ map f l) (sym next) ∙ so_far
+
+  -- all of them
+  maps_end : (xs : List X) (at : ℕ) (ys all : List Y) → length xs ≤ at → ys ++ map f (drop at xs) ≡ all → ys ≡ all
+  maps_end xs at ys all ended so_far = sym (append-nil ys) ∙ ap (λ (l : List X). ys ++ map f l) (sym (none xs at (omega (arith, ended)))) ∙ so_far
+    where
+      none : (zs : List X) (n : ℕ) → length zs ≤ n → drop n zs ≡ []
+      none [] zero most = refl
+      none [] (suc n) most = refl
+      none (z ∷ zs) zero most = absurd (omega (arith, most))
+      none (z ∷ zs) (suc n) most = none zs n (omega (arith, most))
+
+pub map_next_head : (ms : List MemtableView) (at : ℕ) (m : MemtableView) (heads new all : List Head) → at < length ms → m ≡ get_or ms at m → new ≡ heads ++ head_of (map_.entries m.partitions) ∷ [] → heads ++ map_heads (drop at ms) ≡ all → new ++ map_heads (drop (at + 1) ms) ≡ all
+map_next_head = map_next (λ (m : MemtableView). head_of (map_.entries m.partitions))
+
+pub map_next_source : (ms : List MemtableView) (at : ℕ) (m : MemtableView) (sources new all : List Source) → at < length ms → m ≡ get_or ms at m → new ≡ sources ++ Map (behind (map_.entries m.partitions)) ∷ [] → sources ++ map_sources (drop at ms) ≡ all → new ++ map_sources (drop (at + 1) ms) ≡ all
+map_next_source = map_next (λ (m : MemtableView). Map (behind (map_.entries m.partitions)))
+
+pub maps_end_heads : (ms : List MemtableView) (at : ℕ) (heads all : List Head) → length ms ≤ at → heads ++ map_heads (drop at ms) ≡ all → heads ≡ all
+maps_end_heads = maps_end (λ (m : MemtableView). head_of (map_.entries m.partitions))
+
+pub maps_end_sources : (ms : List MemtableView) (at : ℕ) (sources all : List Source) → length ms ≤ at → sources ++ map_sources (drop at ms) ≡ all → sources ≡ all
+maps_end_sources = maps_end (λ (m : MemtableView). Map (behind (map_.entries m.partitions)))

@@ -1,0 +1,46 @@
+-- The opening of the sources of listed data files, each with its first head.
+use Rattle.std.specs.Prelude.{◌≡◌, List, [], ◌∷◌, ◌++◌, Option, None, Some, zero}
+use Rattle.sasi_types.specs.declared.column.ColumnType.{ColumnType}
+use Rattle.sasi_types.specs.declared.partitioner.Partitioner.{Partitioner}
+use Rattle.sasi_host.specs.Names.{Bytes, Folder, data_name}
+use Rattle.sasi_host.specs.View.{contents_in}
+use Rattle.sasi_datawrite.specs.Format.{Content}
+use Rattle.sasi_dataread.specs.HeaderAndFooter.{HasHeaderAndFooter}
+use Rattle.sasi_dataread.specs.Scans.{DataScan}
+use Rattle.sasi_manifest.specs.declared.files.ListedFile.{ListedFile}
+use Rattle.sasi_merge.specs.Merging.{Head}
+use Rattle.sasi_scan.specs.Parts.{HasContent}
+use Rattle.sasi_scan.specs.Sources.{CanWalk, IsOpenIn, StepsTo, numbers_of}
+use Rattle.sasi_scan.specs.declared.source.Source.{Source}
+use Rattle.sasi_scan.specs.declared.source.Source.TheVariants.{File}
+
+-- the scan of the listed file, before its first partition
+pub record IsOpenedFile (seen : Option Folder) (types : List ColumnType) (file : ListedFile) (scan : DataScan) : Type 0 where
+  pub named : scan.opened.file ≡ data_name file.number
+  pub types_are : scan.opened.types ≡ types
+  pub begins : scan.passed ≡ zero
+  pub no_pairs_buffered : scan.pairs_buffered.page ≡ None
+  pub nothing_buffered : scan.buffered.page ≡ None
+  pub can : CanWalk seen scan
+  pub footer : (bytes : Bytes) → contents_in seen scan.opened.file ≡ Some bytes → HasHeaderAndFooter bytes (numbers_of scan.opened)
+  pub opened : (partitioner : Partitioner) (content : Content) → HasContent seen partitioner types file content → IsOpenIn seen scan.opened partitioner content
+
+-- the listed file was opened, and its first head was read
+pub record IsOpened (seen : Option Folder) (types : List ColumnType) (file : ListedFile) (head : Head) (source : Source) : Type 0 where
+  pub scan : DataScan
+  pub is : IsOpenedFile seen types file scan
+  pub steps : StepsTo seen (File scan) head source
+
+abbrev pub AreOpened : Option Folder → List ColumnType → List ListedFile → List Head → List Source → Type 0
+AreOpened seen types [] heads sources = (heads ≡ []) × (sources ≡ [])
+AreOpened seen types (file ∷ files) [] sources = ⊥
+AreOpened seen types (file ∷ files) (head ∷ heads) [] = ⊥
+AreOpened seen types (file ∷ files) (head ∷ heads) (source ∷ sources) = IsOpened seen types file head source × AreOpened seen types files heads sources
+
+-- a source with its head was added, of which P is true
+pub record IsAdded (P : Head → Source → Type 0) (heads : List Head) (sources : List Source) (heads_new : List Head) (sources_new : List Source) : Type 0 where
+  pub head : Head
+  pub source : Source
+  pub is : P head source
+  pub heads_are : heads_new ≡ heads ++ head ∷ []
+  pub sources_are : sources_new ≡ sources ++ source ∷ []

@@ -1,0 +1,125 @@
+-- Sources of a table's partitions: what a step of one needs, what it gives, and what it shows where a file is damaged.
+use Rattle.std.specs.Prelude.{◌≡◌, ℕ, zero, suc, List, ◌∷◌, true, false, slice_get, set, Option, Some, IfSome, IsSome, ⊤}
+use Rattle.std.specs.List.{AllByRecursion, Contains}
+use Rattle.sasi_types.specs.declared.column.ColumnType.{ColumnType}
+use Rattle.sasi_types.specs.declared.decorated_key.DecoratedKey.{DecoratedKey}
+use Rattle.sasi_types.specs.declared.partitioner.Partitioner.{Partitioner}
+use Rattle.sasi_host.specs.declared.fault.ReadFault.{ReadFault}
+use Rattle.sasi_host.specs.Names.{Bytes, Folder, data_name}
+use Rattle.sasi_host.specs.Buffered.{IsBuffered}
+use Rattle.sasi_host.specs.Damages.{OnDamage}
+use Rattle.sasi_host.specs.View.{contents_in}
+use Rattle.sasi_body.specs.Body.{IsBodyOf}
+use Rattle.sasi_datawrite.specs.Files.{IsDataFile}
+use Rattle.sasi_datawrite.specs.Format.{Content}
+use Rattle.sasi_datawrite.specs.declared.footer.Footer.{Footer}
+use Rattle.sasi_dataread.specs.Damages.{ShowsData}
+use Rattle.sasi_dataread.specs.HeaderAndFooter.{HasHeaderAndFooter}
+use Rattle.sasi_dataread.specs.Opened.{IsOpenedAs, OpenDataFile}
+use Rattle.sasi_dataread.specs.Scans.{DataScan, KeysAreBytes, StepsToPartition}
+use Rattle.sasi_manifest.specs.declared.files.ListedFile.{ListedFile}
+use Rattle.sasi_memtable.specs.MemtableView.{MemtableView}
+use Rattle.sasi_merge.specs.Merging.{Head, has_key}
+use Rattle.sasi_merge.specs.Streams.{Entries, behind, head_of}
+use Rattle.sasi_scan.specs.Parts.{IsOfPart}
+use Rattle.sasi_scan.specs.declared.source.Source.{Source}
+use Rattle.sasi_scan.specs.declared.source.Source.TheVariants.{File, Map}
+
+-- ---- a step of a source, over a folder that may be told
+
+-- the file of a scan is there, and its buffered pages are those of the file
+pub record CanWalk (seen : Option Folder) (scan : DataScan) : Type 0 where
+  pub there : IsSome seen → IsSome (contents_in seen scan.opened.file)
+  pub pairs_buffered : IsBuffered scan.pairs_buffered seen
+  pub buffered : IsBuffered scan.buffered seen
+
+abbrev pub CanStep : Option Folder → Source → Type 0
+CanStep seen (File scan) = CanWalk seen scan
+CanStep seen (Map left) = ⊤
+
+-- the file reads as the data file of a content, and was opened as that
+pub record IsOpenIn (seen : Option Folder) (opened : OpenDataFile) (partitioner : Partitioner) (content : Content) : Type 0 where
+  pub bytes : Bytes
+  pub reads : contents_in seen opened.file ≡ Some bytes
+  pub data_file : IsDataFile partitioner opened.types bytes content
+  pub of : IsOpenedAs opened partitioner content
+  pub keys : KeysAreBytes content
+
+-- the scan of a data file goes on to this head: a partition of the table, and where the file has a content the next of it
+pub record StepsInFile (seen : Option Folder) (old : DataScan) (head : Head) (new : DataScan) : Type 0 where
+  pub can : CanWalk seen new
+  pub opened : new.opened ≡ old.opened
+  pub in_table : IfSome head (λ one. IsBodyOf old.opened.types one.1 one.2)
+  pub next : (partitioner : Partitioner) (content : Content) → IsOpenIn seen old.opened partitioner content → StepsToPartition partitioner content old.passed new.passed head
+
+-- the source goes on to this head
+abbrev pub StepsTo : Option Folder → Source → Head → Source → Type 0
+StepsTo seen (File old) head (File new) = StepsInFile seen old head new
+StepsTo seen (Map old) head (Map new) = (head ≡ head_of old) × (new ≡ behind old)
+StepsTo seen (File old) head (Map new) = ⊥
+StepsTo seen (Map old) head (File new) = ⊥
+
+-- ---- damage
+
+-- damage is what the file of a source shows
+abbrev pub ShowsSource : Option Folder → Source → ReadFault → Type 0
+ShowsSource seen (File scan) = OnDamage (λ damage. (bytes : Bytes) → contents_in seen scan.opened.file ≡ Some bytes → ShowsData scan.opened bytes damage)
+ShowsSource seen (Map left) = OnDamage (λ _. ⊥)
+
+-- and is reported only where the file isn't the data file that was opened
+abbrev pub NoFalseSourceDamage : Option Folder → Source → ReadFault → Type 0
+NoFalseSourceDamage seen (File scan) = OnDamage (λ _. (partitioner : Partitioner) (content : Content) → IsOpenIn seen scan.opened partitioner content → ⊥)
+NoFalseSourceDamage seen (Map left) = OnDamage (λ _. ⊥)
+
+-- ---- all sources
+
+-- in any file, what a source has left is of the parts of the table
+abbrev pub AreOfPart : List ColumnType → List MemtableView → Entries → Type 0
+AreOfPart types maps = AllByRecursion (λ entry. IsOfPart types maps entry.0.key entry.1)
+
+abbrev pub IsSourceOf : List ColumnType → List MemtableView → Source → Type 0
+IsSourceOf types maps (File scan) = scan.opened.types ≡ types
+IsSourceOf types maps (Map left) = AreOfPart types maps left
+
+abbrev pub IsHeadOf : List ColumnType → List MemtableView → Head → Type 0
+IsHeadOf types maps head = IfSome head (λ one. IsOfPart types maps one.1 one.2)
+
+abbrev pub numbers_of : OpenDataFile → Footer
+numbers_of opened = record { tree = opened.tree; max_timestamp = opened.max_timestamp; end = opened.end }
+
+-- the file is one of those that are listed, and was opened by its own footer
+pub record IsListedFile (seen : Option Folder) (files : List ListedFile) (types : List ColumnType) (opened : OpenDataFile) : Type 0 where
+  pub file : ListedFile
+  pub listed : Contains files file
+  pub named : opened.file ≡ data_name file.number
+  pub types_are : opened.types ≡ types
+  pub footer : (bytes : Bytes) → contents_in seen opened.file ≡ Some bytes → HasHeaderAndFooter bytes (numbers_of opened)
+
+abbrev pub IsListedSource : Option Folder → List ListedFile → List ColumnType → Source → Type 0
+IsListedSource seen files types (File scan) = IsListedFile seen files types scan.opened
+IsListedSource seen files types (Map left) = ⊤
+
+-- ---- the sources whose heads have a key go on
+
+-- this source advances if its head has the key
+pub data IsMoved (seen : Option Folder) (key : DecoratedKey) (head : Head) (source : Source) (next : Head) (after : Source) : Type 0 where
+  advances : has_key key head ≡ true → StepsTo seen source next after → IsMoved seen key head source next after
+  stays : has_key key head ≡ false → next ≡ head → after ≡ source → IsMoved seen key head source next after
+
+-- so do the first so many, and the others stay
+abbrev pub AreMoved : Option Folder → DecoratedKey → ℕ → List Head → List Source → List Head → List Source → Type 0
+AreMoved seen key zero heads sources nexts afters = (nexts ≡ heads) × (afters ≡ sources)
+AreMoved seen key (suc n) (head ∷ heads) (source ∷ sources) (next ∷ nexts) (after ∷ afters) = IsMoved seen key head source next after × AreMoved seen key n heads sources nexts afters
+AreMoved seen key (suc n) heads sources nexts afters = ⊥
+
+-- the source at this position does
+pub record IsMovedAt (seen : Option Folder) (key : DecoratedKey) (at : ℕ) (heads : List Head) (sources : List Source) (nexts : List Head) (afters : List Source) : Type 0 where
+  pub head : Head
+  pub source : Source
+  pub next : Head
+  pub after : Source
+  pub had : slice_get heads at ≡ Some head
+  pub was : slice_get sources at ≡ Some source
+  pub moved : IsMoved seen key head source next after
+  pub heads_are : nexts ≡ set heads at next
+  pub sources_are : afters ≡ set sources at after
