@@ -31,6 +31,7 @@ use Rattle.sasi_run.specs.Crashing.{CrashLeavesPieces, IsOfState, RunsCrashSafe,
 use Rattle.sasi_run.specs.Headline.{AreReplies, EmitsByStatus, EmitsFirstReplies, EndsWith, Headline, RanToEnd, ReadsToEnd, Replies, Runs, RunsAsModel, RunsFrom, StartsFrom, but_rows, first_of, script_of, status_of_fault}
 use Rattle.sasi_run.specs.Recovering.{IsStateAfter, Recovers}
 use Rattle.sasi_run.specs.Shapes.{answers_of, HasShapeOfImage, LeavesShape, Shapes, StandsForEnd, StartsFromLayout}
+use Rattle.sasi_run.specs.Tails.{new_session}
 use Rattle.sasi_run.specs.declared.status.Status.{Status}
 use Rattle.sasi_run.specs.declared.status.Status.TheVariants.{Usage}
 use Rattle.sasi_run.proofs.ConsumedBytes.{consumes_nothing}
@@ -164,7 +165,7 @@ abbrev pub replies_as_model : (status : Status) (l : Layout) (left_old left_new 
 replies_as_model status l left_old left_new out_old out_new in_order is = record {
   answers = is.answers;
   runs = is.runs;
-  replied = subst (λ (rs : List (List ℕ)). AreReplies grammar_parser (state_of l) (all_pieces (script_of left_old is.runs.read)) rs) (sym is.replied)
+  replied = subst (λ (rs : List (List ℕ)). AreReplies grammar_parser new_session (state_of l) (all_pieces (script_of left_old is.runs.read)) rs) (sym is.replied)
       (answers_are (all_pieces (script_of left_old is.runs.read)) (new_world l) in_order);
 }
 

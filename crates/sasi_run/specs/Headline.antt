@@ -1,6 +1,6 @@
 -- The headline: what a run reads and emits, by the status that it answers, and what a crash leaves. The emitted bytes are
 -- the replies that the model gives to the pieces of the script, and each status says how many of them. When a folder stands for
--- a state is a parameter: nothing here rests on a file's format. `Shapes` says it of files.
+-- a state is a parameter: nothing here rests on a file's format. `Shapes` says it of files, and to the byte what the tails of replies say.
 use Rattle.std.specs.Prelude.{◌≡◌, ℕ, ◌+◌, ◌-◌, ◌^◌, ◌≤◌, ◌<◌, ◌==◌, if◌then◌else◌, min, List, [], ◌∷◌, ◌++◌, length, take, Option, Some, unwrap_or}
 use Rattle.std.specs.List.{concat}
 use Rattle.std.specs.Io.KnownBytes.{Appends, Consumes, IsAtEnd}
@@ -15,6 +15,7 @@ use Rattle.sasi_recover.specs.declared.fault.OpenFault.{OpenFault}
 use Rattle.sasi_recover.specs.declared.fault.OpenFault.TheVariants as open_fault
 use Rattle.sasi_store.specs.Answers.{PrintsRows}
 use Rattle.sasi_run.specs.Recovering.{Recovers, StandsRelation, next_reply}
+use Rattle.sasi_run.specs.Tails.{SessionState, new_session, reply_by, session_by}
 use Rattle.sasi_run.specs.declared.session.Stop.{Stop}
 use Rattle.sasi_run.specs.declared.session.Stop.TheVariants.{Disk, Output, Memory, Corrupt, Spent, Missing}
 use Rattle.sasi_run.specs.declared.status.Status.{Status}
@@ -30,15 +31,15 @@ READ_MOST = 4096
 
 -- ---- replies
 
--- the reply to a piece from a state is that of the model
-abbrev pub IsReply : Parser → State → Piece → List ℕ → Type 0
-IsReply parser s piece reply = reply ≡ (step_by parser s piece).reply
+-- the reply to a piece from a state is that of the model, whose tail, if it has one, says some number
+abbrev pub IsReply : Parser → SessionState → State → Piece → List ℕ → Type 0
+IsReply parser session s piece reply = (n : ℕ) × (reply ≡ reply_by parser session s piece n)
 
 -- these are the replies to pieces from a state, one to each
-abbrev pub AreReplies : Parser → State → List Piece → List (List ℕ) → Type 0
-AreReplies parser s [] answers = answers ≡ []
-AreReplies parser s (p ∷ ps) [] = ⊥
-AreReplies parser s (p ∷ ps) (reply ∷ answers) = IsReply parser s p reply × AreReplies parser (step_by parser s p).state ps answers
+abbrev pub AreReplies : Parser → SessionState → State → List Piece → List (List ℕ) → Type 0
+AreReplies parser session s [] answers = answers ≡ []
+AreReplies parser session s (p ∷ ps) [] = ⊥
+AreReplies parser session s (p ∷ ps) (reply ∷ answers) = IsReply parser session s p reply × AreReplies parser (session_by parser session s p) (step_by parser s p).state ps answers
 
 -- what is said of the bytes of replies: of those to the first pieces of a script from a state, joined, and of the one to a piece behind them
 pub record Replies : Type 1 where
@@ -159,11 +160,11 @@ pub record Runs (parser : Parser) (r : Replies) (status : Status) (s : State) (l
   pub shows : EmitsByStatus parser r status s (script_of left_old read) read shown
   pub bounded : length read ≤ SCRIPT_MOST + READ_MOST
 
--- **The replies**, from a state: one to each piece of the script, as the model gives it. What was emitted are the first of them, as many as the status says.
+-- **The replies**, from a state: one to each piece of the script, as the model gives it, up to the numbers that tails say. What was emitted are the first of them, as many as the status says.
 pub record RunsAsModel (parser : Parser) (status : Status) (s : State) (left_old left_new out_old out_new : Option (List ℕ)) : Type 0 where
   pub answers : List (List ℕ)
   pub runs : Runs parser (first_of answers) status s left_old left_new out_old out_new
-  pub replied : AreReplies parser s (all_pieces (script_of left_old runs.read)) answers
+  pub replied : AreReplies parser new_session s (all_pieces (script_of left_old runs.read)) answers
 
 -- ---- from a state
 

@@ -1,3 +1,4 @@
+pub mod Tails
 pub mod Headline
 pub mod Causes
 pub mod StatusCodes

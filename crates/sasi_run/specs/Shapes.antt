@@ -51,7 +51,7 @@ abbrev pub answers_of : {W : Type 0} → Transitions W → W → List Piece → 
 answers_of steps w [] = []
 answers_of steps w (p ∷ ps) = steps.reply w p ∷ answers_of steps (steps.after w p) ps
 
--- **What is left, file by file.** At each moment since the start the folder that a crash leaves has the shape of the layout after the pieces whose replies were emitted and a first part of the moves of the next one. A run to the script's end leaves the layout after all of them, and no other file. What was emitted are the first of the replies that these layouts give, as many as the status says.
+-- **What is left, file by file.** At each moment since the start the folder that a crash leaves has the shape of the layout after the pieces whose replies were emitted and a first part of the moves of the next one. A run to the script's end leaves the layout after all of them, and no other file. What was emitted are the first of the replies that these layouts give, to the byte, as many as the status says.
 pub record GoesThroughLayouts (parser : Parser) (asked : Option Partitioner) (status : Status) (l : Layout) (left_old left_new : Option (List ℕ)) (host_old host_new : View) : Type 0 where
   pub answers : List (List ℕ)
   pub runs : Runs parser (first_of answers) status (state_of l) left_old left_new host_old.emitted host_new.emitted

@@ -1,7 +1,5 @@
-use Rattle.std.proofs.Common.{◌≡◌, None, Option, inl, refl, sym, subst}
-use Rattle.std.specs.FinMap.{get}
+use Rattle.std.proofs.Common.{Option, inl, refl, sym, subst}
 use Rattle.sasi_types.specs.declared.partitioner.Partitioner.{Partitioner}
-use Rattle.sasi_host.specs.declared.name.FileName.{FileName}
 use Rattle.sasi_host.specs.Names.{Folder}
 use Rattle.sasi_host.specs.View.{View}
 use Rattle.sasi_layout.specs.Layout.{Layout}
