@@ -17,5 +17,8 @@ pub struct DecoratedKey {
 pub fn compare(a: Token, x: &[u8], b: Token, y: &[u8]) -> Ordering
     ensures { result ≡ ordering_then (nat_cmp a b) (key_cmp x.now y.now) }
 {
-    a.cmp(&b).then(x.cmp(y))
+    match a.cmp(&b) {
+        Ordering::Equal => x.cmp(y),
+        order => order,
+    }
 }
