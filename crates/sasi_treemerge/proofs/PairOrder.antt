@@ -93,7 +93,7 @@ chain a b c first second = ⊎_elim
     first
 
 -- a pair behind one that is left comes behind the last one
-behind_on : (last : Option Pair) (found pair : Pair) → is_behind last found ≡ true → is_before found pair ≡ true → is_behind last pair ≡ true
+pub behind_on : (last : Option Pair) (found pair : Pair) → is_behind last found ≡ true → is_before found pair ≡ true → is_behind last pair ≡ true
 behind_on None found pair first second = refl
 behind_on (Some last) found pair first second = is_before_yes last pair (chain last found pair (before_yes last found first) (before_yes found pair second))
 
