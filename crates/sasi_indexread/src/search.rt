@@ -179,9 +179,12 @@ impl Search {
         ensures ok { IsOk result }
         ensures floor { self.new.merge.floor ≡ max self.old.merge.floor token }
         ensures last { self.new.merge.last ≡ self.old.merge.last }
+        ensures collected { self.new.is_collected ≡ self.old.is_collected }
         ensures searching { (content : IndexContent) → IsSearching (H.view host.old) self.old content → IsSearching (H.view host.old) self.new content }
         ensures search { CanSearch (H.view host.old) self.old → CanSearch (H.view host.old) self.new }
         ensures asked { (self.new.index ≡ self.old.index) × (self.new.op ≡ self.old.op) × (self.new.body ≡ self.old.body) }
+        // No more reads are left to it than before.
+        ensures costs { (content : IndexContent) → cost_left self.new content ≤ cost_left self.old content }
         ensures host { host.new ≡ host.old }
         ensures pages { pages.new ≡ pages.old }
     {
