@@ -1,7 +1,10 @@
 -- The content of a memtable.
-use Rattle.std.specs.Prelude.{◌≡◌, ℕ, true, List, is_some, refl}
+use Rattle.std.specs.Prelude.{◌≡◌, ℕ, true, List, Option, None, Some, is_some, refl}
+use Rattle.std.specs.BTreeMap.Range.{entries_between}
 use Rattle.std.specs.Coded.{Coded, code_by, coded×}
 use Rattle.std.specs.FinMap as map_
+use Rattle.std.specs.declared.ops.Bound.TheVariants.{Excluded, Unbounded}
+use Rattle.sasi_types.specs.DecoratedKey.{decorated_cmp}
 use Rattle.sasi_types.specs.declared.decorated_key.DecoratedKey.{DecoratedKey}
 use Rattle.sasi_types.specs.declared.partitioner.Partitioner.{Partitioner}
 use Rattle.sasi_cells.specs.Maps.{put}
@@ -25,6 +28,11 @@ with_change m key change = record m { partitions = put m.partitions (decorated m
 -- each decorated key is that of its key
 abbrev pub AreDecorated : Partitioner → Partitions → Type 0
 AreDecorated partitioner m = (k : DecoratedKey) → is_some (map_.get m k) ≡ true → k ≡ decorated partitioner k.key
+
+-- the entries behind a key, and all of them where none is given
+abbrev pub entries_after : Option DecoratedKey → List (DecoratedKey × Partition) → List (DecoratedKey × Partition)
+entries_after None entries = entries
+entries_after (Some key) entries = entries_between decorated_cmp (Excluded key) Unbounded entries
 
 -- a token and a key
 abbrev pub with_token : ℕ → List ℕ → DecoratedKey

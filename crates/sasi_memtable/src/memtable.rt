@@ -4,7 +4,7 @@ ghost use Rattle.std.specs.BTreeMap.{IsOrdered};
 ghost use Rattle.std.specs.FinMap as map;
 ghost use Rattle.std.specs.Option.{option_copied, option_map};
 ghost use Rattle.sasi_types.specs.DecoratedKey.{decorated_cmp};
-ghost use Rattle.sasi_memtable.specs.MemtableView.{AreDecorated, empty_memtable, with_change, with_token};
+ghost use Rattle.sasi_memtable.specs.MemtableView.{AreDecorated, empty_memtable, entries_after, with_change, with_token};
 ghost use Rattle.sasi_memtable.specs.Sizes.{byte_count, cell_count, saturated};
 
 use crate::decorated_key::decorated;
@@ -16,6 +16,7 @@ use std::alloc::{AllocError, Global};
 use std::collections::BTreeMap;
 use std::collections::btree_map::Iter;
 use std::marker::Model;
+use std::ops::Bound;
 
 /// The memtable of a table: its partitions in the order of their decorated keys. Contracts see them as a finite map, with the
 /// partitioner that makes the tokens.
@@ -113,6 +114,14 @@ impl Memtable {
         self.partitions.iter()
     }
 
+    /// The first partition behind a key, with its own key; the first of all where no key is given, and None where there is none. It
+    /// searches the tree, so that a scan can go on from a key and needs no iterator.
+    pub fn after(&self, key: Option<&DecoratedKey>) -> Option<(&DecoratedKey, &Partition)>
+        ensures { option_map (λ e. (e.0.now, e.1.now)) result ≡ slice_get (entries_after (option_map (λ k. k.now) key.entry) (map.entries self.now.partitions)) 0 }
+    {
+        first_after(&self.partitions, key)
+    }
+
     /// Whether no key has a partition.
     pub fn is_empty(&self) -> bool
         ensures { result ≡ (length (map.entries self.now.partitions) == 0) }
@@ -155,4 +164,21 @@ fn entry_at<'a>(
 {
     let (key, partition) = partitions.iter().nth(position)?;
     Some((key.token, &key.key, partition))
+}
+
+// The first entry behind a key in the order of the tree, which is that of the decorated keys.
+fn first_after<'a>(
+    partitions: &'a BTreeMap<DecoratedKey, Partition>,
+    key: Option<&DecoratedKey>,
+) -> Option<(&'a DecoratedKey, &'a Partition)>
+    ensures entry { option_map (λ e. (e.0.now, e.1.now)) result ≡ slice_get (entries_after (option_map (λ k. k.now) key.entry) partitions.now.entries) 0 }
+    ensures ordered { IsOrdered decorated_cmp partitions.now }
+{
+    match key {
+        None => partitions.iter().next(),
+        Some(key) => {
+            let mut behind = partitions.range((Bound::Excluded(key), Bound::Unbounded));
+            behind.next()
+        }
+    }
 }
