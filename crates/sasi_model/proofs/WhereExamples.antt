@@ -4,7 +4,8 @@ use Rattle.std.specs.Option.{option_map_or}
 use Rattle.sasi_types.specs.declared.column.ColumnType.TheVariants as types
 use Rattle.sasi_types.specs.declared.literal.Literal.{Literal}
 use Rattle.sasi_types.specs.declared.literal.Literal.TheVariants as literals
-use Rattle.sasi_types.specs.declared.literal.Number.TheVariants.{Fits}
+use Rattle.sasi_types.specs.declared.literal.Number.{Number}
+use Rattle.sasi_types.specs.declared.literal.Number.TheVariants.{Fits, Wide}
 use Rattle.sasi_types.specs.declared.mode.Mode.TheVariants as modes
 use Rattle.sasi_types.specs.declared.relation.Relation.{Relation}
 use Rattle.sasi_types.specs.declared.relation.Test.{Test}
@@ -16,6 +17,7 @@ use Rattle.sasi_types.specs.declared.value.Value.TheVariants as values
 use Rattle.sasi_terms.specs.Terms.{terms}
 use Rattle.sasi_model.specs.Abbreviations.{first_refusal}
 use Rattle.sasi_model.specs.Conditions.{Condition, Indexed, OfKey, Plain, compares, condition_of, finds}
+use Rattle.sasi_model.specs.Filters.{limited, row_limit}
 use Rattle.sasi_model.specs.Refusals.{Refusal, select_rules}
 use Rattle.sasi_model.specs.State.{Definition}
 
@@ -340,3 +342,61 @@ thirty_three_relations = refl
 
 filtering_before_too_many : select_refused (replicate 33 (asks (codes "k") tests.Eq (number (pos 1)))) false ≡ Some (19, codes "NeedsFiltering")
 filtering_before_too_many = refl
+
+-- ---- LIMIT
+
+-- the refusal of a SELECT with this LIMIT behind these relations
+abbrev limit_refused : Number → List Relation → Option Refusal
+limit_refused rows relations = first_refusal (select_rules (record (select_of relations false) { limit = Some rows }) (Some searched))
+
+one_row : limit_refused (Fits (pos 1)) [] ≡ None
+one_row = refl
+
+most_rows : limit_refused (Fits (pos 2147483647)) [] ≡ None
+most_rows = refl
+
+no_rows : limit_refused (Fits (pos 0)) [] ≡ Some (9, codes "NumberRange LIMIT")
+no_rows = refl
+
+less_than_no_rows : limit_refused (Fits (negsuc 0)) [] ≡ Some (9, codes "NumberRange LIMIT")
+less_than_no_rows = refl
+
+too_many_rows : limit_refused (Fits (pos 2147483648)) [] ≡ Some (9, codes "NumberRange LIMIT")
+too_many_rows = refl
+
+wide_limit : limit_refused Wide [] ≡ Some (9, codes "NumberRange LIMIT")
+wide_limit = refl
+
+-- a number of the WHERE stands before it in the text
+number_before_limit : limit_refused (Fits (pos 0)) (asks (codes "n") tests.Lt (number (pos 2147483648)) ∷ []) ≡ Some (9, codes "NumberRange n")
+number_before_limit = refl
+
+type_before_limit : limit_refused (Fits (pos 0)) (asks (codes "a") tests.Eq (number (pos 1)) ∷ []) ≡ Some (8, codes "WrongType a")
+type_before_limit = refl
+
+limit_before_operator : limit_refused (Fits (pos 0)) (asks (codes "a") tests.Gt (text (codes "x")) ∷ []) ≡ Some (9, codes "NumberRange LIMIT")
+limit_before_operator = refl
+
+limit_before_filtering : limit_refused (Fits (pos 0)) (asks (codes "c") tests.Eq (text (codes "x")) ∷ []) ≡ Some (9, codes "NumberRange LIMIT")
+limit_before_filtering = refl
+
+limit_is_not_the_tables : first_refusal (select_rules (record (select_of [] false) { limit = Some Wide }) None) ≡ Some (4, codes "NoTable t")
+limit_is_not_the_tables = refl
+
+limit_of_rows : row_limit (Some (Fits (pos 3))) ≡ Some 3
+limit_of_rows = refl
+
+without_limit : row_limit None ≡ None
+without_limit = refl
+
+fewer_rows : limited (Some 2) (1 ∷ 2 ∷ 3 ∷ []) ≡ 1 ∷ 2 ∷ []
+fewer_rows = refl
+
+as_many_rows : limited (Some 3) (1 ∷ 2 ∷ 3 ∷ []) ≡ 1 ∷ 2 ∷ 3 ∷ []
+as_many_rows = refl
+
+more_rows : limited (Some 4) (1 ∷ 2 ∷ 3 ∷ []) ≡ 1 ∷ 2 ∷ 3 ∷ []
+more_rows = refl
+
+all_rows : limited None (1 ∷ 2 ∷ 3 ∷ []) ≡ 1 ∷ 2 ∷ 3 ∷ []
+all_rows = refl

@@ -245,6 +245,9 @@ WrongType name = (8, codes "WrongType " ++ name)
 abbrev pub NumberRange : List ℕ → Refusal
 NumberRange name = (9, codes "NumberRange " ++ name)
 
+abbrev pub LimitRange : Refusal
+LimitRange = (9, codes "NumberRange LIMIT")
+
 abbrev pub KeyMissing : List ℕ → Refusal
 KeyMissing name = (10, codes "KeyMissing " ++ name)
 

@@ -1,7 +1,9 @@
--- The rows that a SELECT answers: those that are there, and of which its WHERE holds.
-use Rattle.std.specs.Prelude.{ℕ, Bool, true, false, ◌&&◌, ◌||◌, List, [], ◌∷◌, map}
+-- The rows that a SELECT answers: those that are there, and of which its WHERE holds, and of these the first, up to its LIMIT.
+use Rattle.std.specs.Prelude.{ℕ, ◌≤◌, ⊤, pos, Bool, true, false, ◌&&◌, ◌||◌, List, [], ◌∷◌, map, take, Option, None, Some}
 use Rattle.std.specs.List.{filter}
 use Rattle.sasi_types.specs.declared.decorated_key.DecoratedKey.{DecoratedKey}
+use Rattle.sasi_types.specs.declared.literal.Number.{Number}
+use Rattle.sasi_types.specs.declared.literal.Number.TheVariants.{Fits}
 use Rattle.sasi_types.specs.declared.relation.Relation.{Relation}
 use Rattle.sasi_model.specs.Cells.{Partition, is_live}
 use Rattle.sasi_model.specs.Conditions.{Condition, condition_of, meets}
@@ -49,6 +51,27 @@ accepts f key p = tree (meets key p) f
 abbrev pub answers : Filter → DecoratedKey × Partition → Bool
 answers f e = is_live e.1 && accepts f e.0.key e.1
 
--- **The rows of the answer**, before its columns are chosen: the table's partitions, filtered one by one.
+-- **The rows of the answer without LIMIT**, before its columns are chosen: the table's partitions, filtered one by one.
 abbrev pub rows : Filter → List (DecoratedKey × Partition) → List (DecoratedKey × Partition)
 rows f entries = filter (answers f) entries
+
+-- ---- LIMIT
+
+-- how many rows it allows, where there is one; no other numbers than these are taken
+abbrev pub row_limit : Option Number → Option ℕ
+row_limit (Some (Fits (pos n))) = Some n
+row_limit limit = None
+
+-- the first of them, as many as a LIMIT allows
+abbrev pub limited : {A : Type 0} → Option ℕ → List A → List A
+limited None xs = xs
+limited (Some n) xs = take n xs
+
+-- so many are no more than it allows
+abbrev pub Allows : Option ℕ → ℕ → Type 0
+Allows None rows = ⊤
+Allows (Some limit) rows = rows ≤ limit
+
+-- **The rows of the answer**: LIMIT counts those that the WHERE leaves.
+abbrev pub rows_up_to : Option ℕ → Filter → List (DecoratedKey × Partition) → List (DecoratedKey × Partition)
+rows_up_to limit f entries = limited limit (rows f entries)

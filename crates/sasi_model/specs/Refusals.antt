@@ -46,7 +46,7 @@ is_built (CreateIndex name table column class options stepped) = not stepped
 is_built (Insert table columns values time) = true
 is_built (Update table time sets key value) = true
 is_built (Delete table columns time key value) = true
-is_built (Query select) = not (is_some select.limit)
+is_built (Query select) = true
 is_built (Flush table) = true
 is_built statement = false
 
@@ -242,14 +242,25 @@ operator_unsupported d r = (not (is_taken d r (number_of_column d r.column) (typ
 abbrev pub like_empty : Definition → Relation → RefusalRule
 like_empty d r = (tests_number (λ number. is_empty_like d number r.test r.value) (number_of_column d r.column), (18, codes "LikeEmpty " ++ r.column))
 
--- the rules of a relation, in order: the first one is tried on all relations of the WHERE before the second is, and so on
-abbrev pub rules_of_relations : List (Definition → Relation → RefusalRule)
-rules_of_relations =
-    (λ d r. no_column d r.column) ∷ (λ d r. wrong_where d r.column r.value) ∷ (λ d r. number_range d r.column r.value)
-    ∷ (λ d r. key_empty d r.column r.value) ∷ (λ d r. value_too_long d r.column r.value) ∷ operator_unsupported ∷ like_empty ∷ []
+-- Rules of a relation, in order: the first one is tried on all relations of the WHERE before the second is, and so on. These come before those of LIMIT,
+abbrev pub operand_rules : List (Definition → Relation → RefusalRule)
+operand_rules = (λ d r. no_column d r.column) ∷ (λ d r. wrong_where d r.column r.value) ∷ (λ d r. number_range d r.column r.value) ∷ []
 
-abbrev pub relation_rules : Definition → List Relation → List RefusalRule
-relation_rules d relations = flat_map (λ rule. map (rule d) relations) rules_of_relations
+-- and these after them.
+abbrev pub search_rules : List (Definition → Relation → RefusalRule)
+search_rules = (λ d r. key_empty d r.column r.value) ∷ (λ d r. value_too_long d r.column r.value) ∷ operator_unsupported ∷ like_empty ∷ []
+
+abbrev pub relation_rules : List (Definition → Relation → RefusalRule) → Definition → List Relation → List RefusalRule
+relation_rules rules d relations = flat_map (λ rule. map (rule d) relations) rules
+
+-- a number of rows
+abbrev pub is_count : Number → Bool
+is_count (Fits z) = int_le (pos 1) z && int_le z (pos (2 ^ 31 - 1))
+is_count Wide = false
+
+-- A LIMIT is from 1 to 2^31 - 1.
+abbrev pub limit_range : Option Number → RefusalRule
+limit_range limit = (option_map_or (λ rows. not (is_count rows)) limit false, (9, codes "NumberRange LIMIT"))
 
 -- the relation is on a column that is neither the key nor indexed
 abbrev pub is_filtered : Definition → Relation → Bool
@@ -262,11 +273,12 @@ needs_filtering d select = (not select.filtering && (nat_le 2 (length select.rel
 abbrev pub too_many_relations : Select → RefusalRule
 too_many_relations select = (nat_lt 32 (length select.relations), (24, codes "TooMany relations 32"))
 
--- the columns that it names stand before its WHERE
+-- the columns that it names stand before its WHERE, and LIMIT after it
 abbrev pub select_rules : Select → Option Definition → List RefusalRule
 select_rules select None = (true, (4, codes "NoTable " ++ select.table)) ∷ []
 select_rules select (Some d) =
-    map (no_column d) (unwrap_or select.columns []) ++ (relation_rules d select.relations ++ needs_filtering d select ∷ too_many_relations select ∷ [])
+    map (no_column d) (unwrap_or select.columns []) ++ (relation_rules operand_rules d select.relations
+    ++ limit_range select.limit ∷ (relation_rules search_rules d select.relations ++ needs_filtering d select ∷ too_many_relations select ∷ []))
 
 -- ---- CREATE CUSTOM INDEX
 

@@ -24,7 +24,7 @@ use Rattle.sasi_model.specs.Indexes.{IndexOption, index_made, index_name}
 use Rattle.sasi_model.specs.Changes.{empty_table, table_with_index}
 use Rattle.sasi_model.specs.Parsers.{Parser, grammar_parser}
 use Rattle.sasi_model.specs.Refusals.{Refusal, ParsedPiece, Nothing, Says, Bad, read_by, refusal, type_of_column, is_key_value}
-use Rattle.sasi_model.specs.Filters.{filter_of, rows}
+use Rattle.sasi_model.specs.Filters.{filter_of, row_limit, rows_up_to}
 use Rattle.sasi_model.specs.Lines.{line, rows_lines, refusal_line}
 pub use Rattle.sasi_model.specs.Values.{value_given, value_stored}
 
@@ -81,7 +81,7 @@ values_numbered d numbers entry = map (value_numbered d entry.0 entry.1) numbers
 
 -- the lines of a SELECT over the partitions of a table, in their order
 abbrev pub select_lines : Definition → Select → List (DecoratedKey × Partition) → List ℕ
-select_lines d select entries = rows_lines (map (values_numbered d (selected_columns d select.columns)) (rows (filter_of d select.relations) entries))
+select_lines d select entries = rows_lines (map (values_numbered d (selected_columns d select.columns)) (rows_up_to (row_limit select.limit) (filter_of d select.relations) entries))
 
 -- ---- one statement
 
