@@ -109,7 +109,7 @@ left_cost partitioner token at content zero = token_reads partitioner token at c
 left_cost partitioner token at [] (suc index) = 0
 left_cost partitioner token at (one ∷ others) (suc index) = left_cost partitioner token (at + length (partition_bytes one.0 one.1)) others index
 
-left_less : (partitioner : Partitioner) (token at : ℕ) (content : Content) (index : ℕ) → left_cost partitioner token at content index ≤ token_reads partitioner token at content
+pub left_less : (partitioner : Partitioner) (token at : ℕ) (content : Content) (index : ℕ) → left_cost partitioner token at content index ≤ token_reads partitioner token at content
 left_less partitioner token at content zero = omega arith
 left_less partitioner token at [] (suc index) = omega arith
 left_less partitioner token at (one ∷ others) (suc index) = omega (arith, left_less partitioner token (at + length (partition_bytes one.0 one.1)) others index)
@@ -224,7 +224,7 @@ is_here partitioner content token place index passed takes =
       on = omega (arith, left.0, left.1);
     }
 
-steps_to_it : (partitioner : Partitioner) (content : Content) (token place index passed : ℕ) (next : Option Pair) → LeadsTo token next (Some place) →
+pub steps_to_it : (partitioner : Partitioner) (content : Content) (token place index passed : ℕ) (next : Option Pair) → LeadsTo token next (Some place) →
     StepsToPair (key_pairs partitioner content) index passed next → StepsToPair (key_pairs partitioner content) index passed
     (Some (record { token = token; place = place }))
 steps_to_it partitioner content token place index passed next leads takes = subst (λ (o : Option Pair). StepsToPair (key_pairs partitioner content) index passed o) leads takes
@@ -293,30 +293,35 @@ one_more view a b file ref tree token place next result leads gives entry_buffer
 
 -- ---- none is left
 
+-- where the next pair has another token, the partitions that are left have higher ones
+pub all_above : (v : View) (opened : OpenDataFile) (partitioner : Partitioner) (content : Content) (token index passed : ℕ) (next : Option Pair) → IsOpenOn v opened partitioner content → StepsToPair (key_pairs partitioner content) index passed next
+    → ((other : ℕ) → index ≤ other → other < length content → token ≤ (pair_at (key_pairs partitioner content) other).token) → LeadsTo token next None
+    → AllByRecursion (λ one. token < token_of partitioner one.0) (drop index content)
+all_above v opened partitioner content token index passed None is takes above other =
+    subst (λ (l : Content). AllByRecursion (λ one. token < token_of partitioner one.0) l) (sym (none_left partitioner content index takes.0)) tt
+all_above v opened partitioner content token index passed (Some pair) is takes above other =
+    let n = nth partitioner (length header) content index pair (drop passed (key_pairs partitioner content)) takes in
+    let left = as_many_left partitioner content index passed pair takes in
+    let here : pair_at (key_pairs partitioner content) (index + 0) ≡ pair = sym
+    (get_or-drop index (key_pairs partitioner content) 0 (record { token = 0; place = 0 })) ∙ ap (λ (l : List Pair). pair_at l 0) takes in
+    let at : pair_at (key_pairs partitioner content) index ≡ pair = ap (λ (k : ℕ). pair_at (key_pairs partitioner content) k) (omega arith) ∙ here in
+    let token_is : pair.token ≡ token_of partitioner n.one.0 = ap (λ (p : Pair). p.token) n.pair_is in
+    let least = above index (omega arith) left.0 in
+    let less : token < pair.token = ⊎_elim (λ lt. lt) (λ eq. absurd (other pair refl (sym eq))) (below_or_same token pair.token (omega (arith, least, ap (λ (p : Pair). p.token) at))) in
+    let sorted = subst (λ (l : Content). IsStrictlySortedBy decorated_cmp (map (decorated_key partitioner) l)) n.left (sorted_behind partitioner content index is.data_file.content_is.rising) in
+    subst (λ (l : Content). AllByRecursion (λ one. token < token_of partitioner one.0) l) (sym n.left)
+    (tokens_behind partitioner token n.one (drop (suc index) content) sorted (omega (arith, less, token_is)))
+  where
+    below_or_same : (m n : ℕ) → m ≤ n → (m < n) ⊎ (m ≡ n)
+    below_or_same m n le = grind arith
+
 pub none_here : (v : View) (opened : OpenDataFile) (partitioner : Partitioner) (content : Content) (token : ℕ) (key : Bytes) (turns passed : ℕ)
     (next : Option Pair) (reads most : ℕ) → IsOpenOn v opened partitioner content → Searches partitioner content token key turns passed next reads
     most
     → LeadsTo token next None → token ≡ token_of partitioner key → None ≡ partition_of content key
-none_here v opened partitioner content token key turns passed None reads most is s other same = sym
-    (s.same same ∙ ap (λ (l : Content). partition_of l key) (none_left partitioner content s.index s.takes.0))
-none_here v opened partitioner content token key turns passed (Some pair) reads most is s other same =
-    let n = nth partitioner (length header) content s.index pair (drop passed (key_pairs partitioner content)) s.takes in
-    let left = as_many_left partitioner content s.index passed pair s.takes in
-    let here : pair_at (key_pairs partitioner content) (s.index + 0) ≡ pair = sym
-    (get_or-drop s.index (key_pairs partitioner content) 0 (record { token = 0; place = 0 })) ∙ ap (λ (l : List Pair). pair_at l 0) s.takes in
-    let at : pair_at (key_pairs partitioner content) s.index ≡ pair = ap (λ (k : ℕ). pair_at (key_pairs partitioner content) k) (omega arith) ∙ here in
-    let token_is : pair.token ≡ token_of partitioner n.one.0 = ap (λ (p : Pair). p.token) n.pair_is in
-    let least = s.above s.index (omega arith) left.0 in
-    let less : token < pair.token = ⊎_elim (λ lt. lt) (λ eq. absurd (other pair refl (sym eq))) (below_or_same token pair.token (omega (arith, least, ap (λ (p : Pair). p.token) at))) in
-    let sorted = subst (λ (l : Content). IsStrictlySortedBy decorated_cmp (map (decorated_key partitioner) l)) n.left (sorted_behind partitioner content s.index is.data_file.content_is.rising) in
-    sym (
-    s.same same ∙ ap (λ (l : Content). partition_of l key) n.left
-    ∙ above_none partitioner key (n.one ∷ drop (suc s.index) content)
-    (tokens_behind partitioner (token_of partitioner key) n.one (drop (suc s.index) content) sorted (omega (arith, less, same, token_is)))
-    )
-  where
-    below_or_same : (m n : ℕ) → m ≤ n → (m < n) ⊎ (m ≡ n)
-    below_or_same m n le = grind arith
+none_here v opened partitioner content token key turns passed next reads most is s other same =
+    let above = all_above v opened partitioner content token s.index passed next is s.takes s.above other in
+    sym (s.same same ∙ above_none partitioner key (drop s.index content) (subst (λ (t : ℕ). AllByRecursion (λ one. t < token_of partitioner one.0) (drop s.index content)) same above))
 
 pub all_passed : (partitioner : Partitioner) (content : Content) (token : ℕ) (key : Bytes) (turns passed : ℕ) (next : Option Pair) (reads most : ℕ) →
     Searches partitioner content token key turns passed next reads most → length content ≤ turns → token ≡ token_of partitioner key → None ≡

@@ -10,4 +10,5 @@ pub mod Opening
 pub mod DataScan
 pub mod Looking
 pub mod Finding
+pub mod Gathering
 pub mod Ends

@@ -31,7 +31,7 @@ header_before v w file tree passed None change reads = tt
 header_before v w file tree passed (Some pair) change reads = λ leaf at bytes is. reads leaf at bytes (contents_same v w file change ∙ is)
 
 -- it leads to the partition that is read then
-pub leads_there : (v w : View) (opened : OpenDataFile) (before after : ℕ) (pair : Pair) (key : Bytes) (part : Partition) → after ≡ before + 1
+unfoldable pub leads_there : (v w : View) (opened : OpenDataFile) (before after : ℕ) (pair : Pair) (key : Bytes) (part : Partition) → after ≡ before + 1
     → ReadsEntry v opened.file opened.tree after (Some pair) → ReadsHeader v opened.file opened.tree after (Some pair) → Changes Same v w → IsPartitionOffset opened.end pair.place
     → IsStoredAt w opened pair.place key part → LeadsToPartition v opened before pair.token key part
 leads_there v w opened before after pair key part one entry header change begins stored =

@@ -40,7 +40,8 @@ less_or_equal m n le = grind arith
 before : (a b : Pair) → a.token ≤ b.token → a.place < b.place → IsBefore a b
 before a b le lt = ⊎_elim (λ less. inl less) (λ same. inr (same, lt)) (less_or_equal a.token b.token le)
 
-rising_from : (partitioner : Partitioner) (at : ℕ) (content : Content) → IsStrictlySortedBy decorated_cmp (map (decorated_key partitioner) content) →
+-- they rise from one to the next, whatever the offset of the first partition
+pub rising_from : (partitioner : Partitioner) (at : ℕ) (content : Content) → IsStrictlySortedBy decorated_cmp (map (decorated_key partitioner) content) →
     (index next : ℕ) → next ≡ suc index → next < length (pairs_from partitioner at content)
     → IsBefore (pair_at (pairs_from partitioner at content) index) (pair_at (pairs_from partitioner at content) next)
 unfolding IsStrictlySortedBy

@@ -6,3 +6,4 @@ pub mod HeaderAndFooter
 pub mod Scans
 pub mod ReadCosts
 pub mod Finds
+pub mod PlacedKeys

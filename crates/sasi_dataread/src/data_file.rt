@@ -20,12 +20,14 @@ ghost use Rattle.sasi_dataread.specs.Damages.{ShowsData, ShowsHeaderOrFooter, Sh
 ghost use Rattle.sasi_dataread.specs.HeaderAndFooter.{HasHeaderAndFooter};
 ghost use Rattle.sasi_dataread.specs.Scans.{KeysAreBytes, NoFalseOpenedDamage};
 ghost use Rattle.sasi_dataread.specs.Finds.{FindsKey, FindsStored, MissesKey, token_reads};
+ghost use Rattle.sasi_dataread.specs.PlacedKeys.{HasKeysOfToken, keys_at};
 
-use crate::Walk;
 use crate::find::find_partition;
 use crate::footer::read_footer;
 use crate::partition::partition_at;
+use crate::token_keys::keys_of_token;
 use crate::types::copy_types;
+use crate::{PlacedKey, Walk};
 use sasi_cells::Partition;
 use sasi_host::{BufferedFile, FileName, Host, PageReader, ReadFault};
 use sasi_tokentree::Tree;
@@ -237,5 +239,30 @@ impl DataFile {
             → (H.view host.new).reads ≤ (H.view host.old).reads + (2 * height most self.now.tree.pairs + 2 + token_reads partitioner token (length header) content) }
     {
         find_partition(alloc, host, pages, self, token, key)
+    }
+
+    /// The keys of the partitions with this token, in the file's order, each with the offset at which `at` reads its partition.
+    /// It searches the key tree once, and reads each of these partitions once.
+    pub fn keys_with<H: Host, P: PageReader>(
+        &self,
+        alloc: Global,
+        host: &mut H,
+        pages: &mut P,
+        token: Token,
+    ) -> Result<Vec<PlacedKey>, ReadFault>
+        requires read { CanRead (P.agrees pages.old) (H.view host.old) self.now.file }
+        ensures ok { IfOk result (λ keys. (partitioner : Partitioner) (content : Content) → IsOpenOn (H.view host.old) self.now partitioner content → KeysAreBytes content → keys.items ≡ keys_at partitioner token (length header) content) }
+        // In any file they are the keys to which the pairs of the token lead, one after another, and none of these is left out.
+        ensures stands { IfOk result (λ keys. HasKeysOfToken (H.view host.old) self.now token keys.items) }
+        ensures damaged { IfErr result (DamageShown (H.view host.old) self.now.file (ShowsData self.now)) }
+        ensures undamaged { IfErr result (NoFalseOpenedDamage (H.view host.old) self.now) }
+        ensures read { HasRead (P.agrees pages.new) (P.covers pages.old) (P.covers pages.new) (H.view host.old) (H.view host.new) self.now.file }
+        ensures causes { (most : ℕ) → self.now.tree.pairs ≤ most → ReadCost (2 * height most self.now.tree.pairs + 2 + 2051 * self.now.tree.pairs) (H.view host.old) (H.view host.new) result }
+        // It reads at most two pages a level and two more, and the pages of the partitions with the token and one for each,
+        // where the file is a data file.
+        ensures reads { (most : ℕ) (partitioner : Partitioner) (content : Content) → self.now.tree.pairs ≤ most → IsOpenOn (H.view host.old) self.now partitioner content → KeysAreBytes content
+            → (H.view host.new).reads ≤ (H.view host.old).reads + (2 * height most self.now.tree.pairs + 2 + token_reads partitioner token (length header) content) }
+    {
+        keys_of_token(alloc, host, pages, self, token)
     }
 }

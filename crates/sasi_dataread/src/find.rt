@@ -27,7 +27,7 @@ use sasi_types::{Key, Pair, Token};
 use std::alloc::Global;
 
 // The offset of the pair, if it has this token.
-fn offset_for(next: Option<Pair>, token: Token) -> Option<u64>
+pub(crate) fn offset_for(next: Option<Pair>, token: Token) -> Option<u64>
     ensures { LeadsTo token next result }
 {
     let pair = next?;

@@ -10,9 +10,11 @@ mod footer;
 mod pair;
 mod partition;
 mod parts;
+mod token_keys;
 mod types;
 mod walk;
 
 pub use data_file::DataFile;
 pub use end::read_max_timestamp;
+pub use token_keys::PlacedKey;
 pub use walk::Walk;

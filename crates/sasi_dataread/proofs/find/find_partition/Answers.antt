@@ -5,8 +5,7 @@ use Rattle.sasi_host.proofs.PageReadingLaws.{read_of, read_then}
 use Rattle.sasi_types.specs.declared.tree.Pair.{Pair}
 use Rattle.sasi_types.specs.declared.tree.TreeRef.{TreeRef}
 use Rattle.sasi_host.specs.Disk.{Same}
-use Rattle.sasi_host.specs.Names.{Bytes}
-use Rattle.sasi_host.specs.View.{IsThere, ReadCost}
+use Rattle.sasi_host.specs.View.{IsThere}
 use Rattle.sasi_host.specs.declared.name.FileName.{FileName}
 use Rattle.sasi_host.proofs.ChangeLaws.{then_same}
 use Rattle.sasi_host.specs.Buffered.{Buffered, IsBuffered}
