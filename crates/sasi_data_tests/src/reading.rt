@@ -72,7 +72,7 @@ fn key_at(rt: &impl Abort, alloc: Global, host: &mut MemHost, opened: &DataFile,
 }
 
 /// The partition at this offset.
-fn read_at(
+pub fn read_at(
     rt: &impl Abort,
     alloc: Global,
     host: &mut MemHost,

@@ -5,9 +5,9 @@ ghost use Rattle.sasi_data_tests.specs.Scan.{IsScanOf};
 ghost use Rattle.sasi_data_tests.specs.declared.fixture.TheConstants.{DATA};
 
 use crate::fixture::{DATA, write_bodies};
-use crate::reading::{find, open_whole};
+use crate::reading::{find, open_whole, read_at};
 use sasi_cells::Partition;
-use sasi_dataread::{DataFile, Walk};
+use sasi_dataread::{DataFile, PlacedKey, Walk};
 use sasi_datawrite::NoWatch;
 use sasi_host::{Direct, MemHost};
 use sasi_types::{Key, Token};
@@ -160,6 +160,86 @@ fn keys_of_shared_tokens_are_found(rt: HostRuntime) {
         check_key(&rt, alloc, &mut host, &data, k);
     }
     check_find(&rt, alloc, &mut host, &data, u64::MAX, &[0xff; 8], false);
+    drop(data);
+    drop(host);
+}
+
+/// The keys with a token.
+fn keys_with(
+    rt: &impl Abort,
+    alloc: Global,
+    host: &mut MemHost,
+    opened: &DataFile,
+    token: Token,
+) -> Vec<PlacedKey>
+    requires { opened.now.file ≡ DATA }
+{
+    assert!(rt; host.bytes(DATA).is_some());
+    let keys = opened.keys_with(alloc, host, &mut Direct, token);
+    keys.expect(rt, "read")
+}
+
+/// The key is this one, and its partition stands at the offset.
+fn check_placed(
+    rt: &impl Abort,
+    alloc: Global,
+    host: &mut MemHost,
+    opened: &DataFile,
+    placed: &PlacedKey,
+    k: u16,
+)
+    requires { opened.now.file ≡ DATA }
+{
+    assert!(rt; placed.key.bytes() == nth_key(k).as_slice());
+    let (key, part) = read_at(rt, alloc, host, opened, placed.place);
+    check_nth(rt, nth_token(k), &key, &part, k);
+    drop((key, part));
+}
+
+/// The keys with a token are as many as these, from this one on.
+fn check_keys(
+    rt: &impl Abort,
+    alloc: Global,
+    host: &mut MemHost,
+    opened: &DataFile,
+    token: Token,
+    ks: &[u16],
+)
+    requires { opened.now.file ≡ DATA }
+{
+    let keys = keys_with(rt, alloc, host, opened, token);
+    assert!(rt; keys.len() == ks.len());
+    for (k, placed) in ks.iter().zip(&keys) {
+        check_placed(rt, alloc, host, opened, placed, *k);
+    }
+    drop(keys);
+}
+
+#[test]
+fn keys_of_a_token_are_read(rt: HostRuntime) {
+    let alloc = rt.alloc();
+    let mut host = written(&rt, alloc);
+    let data = open_whole(&rt, alloc, &mut host);
+    check_keys(&rt, alloc, &mut host, &data, 1, &[0, 1, 2, 3, 4, 5, 6]);
+    check_keys(
+        &rt,
+        alloc,
+        &mut host,
+        &data,
+        73,
+        &[252, 253, 254, 255, 256, 257, 258],
+    );
+    check_keys(
+        &rt,
+        alloc,
+        &mut host,
+        &data,
+        85,
+        &[294, 295, 296, 297, 298, 299],
+    );
+    check_keys(&rt, alloc, &mut host, &data, 0, &[]);
+    check_keys(&rt, alloc, &mut host, &data, 2, &[]);
+    check_keys(&rt, alloc, &mut host, &data, u64::MAX, &[]);
     drop(data);
     drop(host);
 }
