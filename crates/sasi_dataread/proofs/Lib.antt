@@ -11,4 +11,5 @@ pub mod DataScan
 pub mod Looking
 pub mod Finding
 pub mod Gathering
+pub mod PlacedLaws
 pub mod Ends
