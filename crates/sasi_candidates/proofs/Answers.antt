@@ -8,10 +8,10 @@ use Rattle.sasi_cells.specs.Maps.{merged}
 use Rattle.sasi_cells.proofs.Laws.Decorated.{entries_have}
 use Rattle.sasi_model.specs.Abbreviations.{Partitions}
 use Rattle.sasi_model.specs.Cells.{Partition, is_live}
-use Rattle.sasi_model.specs.Filters.{Filter, accepts, answers}
+use Rattle.sasi_model.specs.Filters.{Filter, accepts, answers, limited}
 use Rattle.sasi_layout.specs.Layout.{File, TableParts, parts, table_of, unflushed}
 use Rattle.sasi_candidates.specs.Candidates.{candidates, is_candidate}
-use Rattle.sasi_candidates.specs.Checks.{given, given_of, limited, looked, looked_of, rows}
+use Rattle.sasi_candidates.specs.Checks.{given, given_of, looked, looked_of, rows}
 use Rattle.sasi_candidates.specs.LayoutParts.{part_of_file, part_of_map, parts_of}
 use Rattle.sasi_candidates.specs.Parts.{Part, maps_of}
 use Rattle.sasi_candidates.proofs.Hits.{row_is_candidate}

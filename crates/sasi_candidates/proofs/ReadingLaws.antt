@@ -1,8 +1,9 @@
 -- For callers: the step of a reader to the next row, and how many candidates it looked at where it has none.
 use Rattle.std.proofs.Common.{◌≡◌, ℕ, zero, suc, ◌+◌, ◌-◌, Bool, true, false, cond, if◌then◌else◌, List, [], ◌∷◌, ◌++◌, length, drop, Option, None, Some, refl, sym, ap, ◌∙◌, ⊎_elim, arith, length-append}
 use Rattle.std.specs.List.{filter, AllByRecursion}
+use Rattle.sasi_model.specs.Filters.{Allows}
 use Rattle.sasi_candidates.specs.Checks.{looked, looked_of}
-use Rattle.sasi_candidates.specs.Reading.{Allows, IsAt, IsNext, IsOver, left_after}
+use Rattle.sasi_candidates.specs.Reading.{IsAt, IsNext, IsOver, left_after}
 
 one_more : {A : Type 0} (n : ℕ) (test : A → Bool) (xs : List A) → left_after (suc n) test xs ≡ left_after 1 test (left_after n test xs)
 one_more zero test xs = refl

@@ -1,25 +1,19 @@
 -- Candidates are looked at one after another, until LIMIT rows are given.
-use Rattle.std.specs.Prelude.{ℕ, zero, suc, Bool, if◌then◌else◌, List, [], ◌∷◌, length, take, Option, None, Some}
+use Rattle.std.specs.Prelude.{ℕ, zero, suc, Bool, if◌then◌else◌, List, [], ◌∷◌, length, Option, None, Some}
 use Rattle.std.specs.List.{filter}
 use Rattle.std.specs.FinMap as map_
 use Rattle.sasi_types.specs.declared.decorated_key.DecoratedKey.{DecoratedKey}
 use Rattle.sasi_model.specs.Abbreviations.{Partitions}
 use Rattle.sasi_model.specs.Cells.{Partition}
-use Rattle.sasi_model.specs.Filters.{Filter, answers}
-use Rattle.sasi_model.specs.Filters as model
+use Rattle.sasi_model.specs.Filters.{Filter, answers, rows_up_to}
 use Rattle.sasi_candidates.specs.Candidates.{candidates}
 use Rattle.sasi_candidates.specs.Parts.{Part}
 
 -- ---- the answer
 
--- the first rows, as many as LIMIT allows
-abbrev pub limited : {A : Type 0} → Option ℕ → List A → List A
-limited None xs = xs
-limited (Some n) xs = take n xs
-
 -- **The rows of the answer** over one map, before their columns are chosen.
 abbrev pub rows : Option ℕ → Filter → Partitions → List (DecoratedKey × Partition)
-rows limit f m = limited limit (model.rows f (map_.entries m))
+rows limit f m = rows_up_to limit f (map_.entries m)
 
 -- ---- candidates, one after another
 

@@ -1,17 +1,13 @@
 -- A reader that looks at candidates one after another, and gives the rows that pass.
-use Rattle.std.specs.Prelude.{◌≡◌, ◌⊎◌, ℕ, zero, suc, ◌+◌, ◌≤◌, ◌<◌, Bool, true, false, if◌then◌else◌, List, [], ◌∷◌, ◌++◌, length, Option, None, Some, ⊤}
+use Rattle.std.specs.Prelude.{◌≡◌, ◌⊎◌, ℕ, zero, suc, ◌+◌, ◌≤◌, ◌<◌, Bool, true, false, if◌then◌else◌, List, [], ◌∷◌, ◌++◌, length, Option, None, Some}
 use Rattle.std.specs.List.{AllByRecursion}
+use Rattle.sasi_model.specs.Filters.{Allows}
 
 -- the candidates that are left after so many rows
 abbrev pub left_after : {A : Type 0} → ℕ → (A → Bool) → List A → List A
 left_after zero test xs = xs
 left_after (suc n) test [] = []
 left_after (suc n) test (x ∷ xs) = left_after (if test x then n else suc n) test xs
-
--- LIMIT allows so many rows
-abbrev pub Allows : Option ℕ → ℕ → Type 0
-Allows None rows = ⊤
-Allows (Some limit) rows = rows ≤ limit
 
 -- **A reader of all candidates has given so many rows and looked at so many candidates, and these are left.**
 pub record IsAt {A : Type 0} (limit : Option ℕ) (test : A → Bool) (all : List A) (rows seen : ℕ) (left : List A) : Type 0 where
