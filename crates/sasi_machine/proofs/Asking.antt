@@ -14,7 +14,7 @@ use Rattle.sasi_types.specs.declared.relation.Relation.{Relation}
 use Rattle.sasi_types.specs.declared.relation.Test.TheVariants.{Like}
 use Rattle.sasi_types.specs.declared.statement.Select.{Select}
 use Rattle.sasi_model.specs.Abbreviations.{column_at, first_refusal, key_name, name_or_none}
-use Rattle.sasi_model.specs.Refusals.{RefusalRule, is_key, is_null, is_of, is_within, key_empty, like_empty, no_column, number_range, operator_unsupported, relation_rules, tests_number, type_of_column, value_too_long, wrong_where}
+use Rattle.sasi_model.specs.Refusals.{RefusalRule, is_key, is_null, is_of, is_within, key_empty, like_empty, limit_range, no_column, number_range, operand_rules, operator_unsupported, relation_rules, search_rules, tests_number, type_of_column, value_too_long, wrong_where}
 use Rattle.sasi_model.specs.Relations.{asks_nothing, is_empty_like, rule_on}
 use Rattle.sasi_model.specs.State.{Definition, number_at, number_of_column, position_in}
 use Rattle.sasi_model.specs.Tokens.{same}
@@ -23,6 +23,7 @@ use Rattle.sasi_schema.proofs.Keys.{is_key_by_name}
 use Rattle.sasi_schema.proofs.Positions.{position_named}
 use Rattle.sasi_schema.proofs.RuleLaws.{none_first, none_parts}
 use Rattle.sasi_schema.specs.Numbers.{IsKeyAt}
+use Rattle.sasi_machine.specs.Checks.{after_columns_rules, after_operands_rules}
 use Rattle.sasi_machine.specs.KeyLiteral.{IsKeyLiteral}
 use Rattle.sasi_machine.specs.Operands.{CanAsk, CanSearch, CanSelect, IsOperand}
 
@@ -40,13 +41,12 @@ record AllPass (d : Definition) (rs : List Relation) : Type 0 where
   short : first_refusal (map (λ r. value_too_long d r.column r.value) rs) ≡ None
   asks : first_refusal (map (like_empty d) rs) ≡ None
 
-all_pass : (d : Definition) (rs : List Relation) → first_refusal (relation_rules d rs) ≡ None → AllPass d rs
-all_pass d rs none =
-    let rest : List (Definition → Relation → RefusalRule) → List RefusalRule = λ rules. flat_map (λ rule. map (rule d) rs) rules in
-    let one = none_parts (map (λ r. no_column d r.column) rs) _ none in
+all_pass : (d : Definition) (rs : List Relation) → first_refusal (relation_rules operand_rules d rs) ≡ None → first_refusal (relation_rules search_rules d rs) ≡ None → AllPass d rs
+all_pass d rs operands searches =
+    let one = none_parts (map (λ r. no_column d r.column) rs) _ operands in
     let two = none_parts (map (λ r. wrong_where d r.column r.value) rs) _ one.1 in
     let three = none_parts (map (λ r. number_range d r.column r.value) rs) _ two.1 in
-    let four = none_parts (map (λ r. key_empty d r.column r.value) rs) _ three.1 in
+    let four = none_parts (map (λ r. key_empty d r.column r.value) rs) _ searches in
     let five = none_parts (map (λ r. value_too_long d r.column r.value) rs) _ four.1 in
     let six = none_parts (map (operator_unsupported d) rs) _ five.1 in
     let seven = none_parts (map (like_empty d) rs) _ six.1 in
@@ -65,12 +65,25 @@ each_can d (r ∷ rs) written pass =
       each_can d rs written.1 (record { column = column.1; typed = typed.1; ranged = ranged.1; some = some.1; short = short.1; asks = asks.1 }),
     )
 
--- **No rule refuses a relation of a SELECT that isn't refused.**
-pub can_ask : (d : Definition) (select : Select) → CanSelect d select → AllByRecursion (CanAsk d) select.relations
-can_ask d select can =
-    let columns = none_parts (map (no_column d) (unwrap_or select.columns [])) _ can.taken in
-    let relations = none_parts (relation_rules d select.relations) _ columns.1 in
-    each_can d select.relations can.written.2 (all_pass d select.relations relations.0)
+module _ (d : Definition) (select : Select) (can : CanSelect d select) where
+  -- the rules behind those of its columns pass
+  columns_behind : first_refusal (after_columns_rules d select.limit select.filtering select.relations) ≡ None
+  columns_behind = (none_parts (map (no_column d) (unwrap_or select.columns [])) _ can.taken).1
+
+  operands_behind : first_refusal (after_operands_rules d select.limit select.filtering select.relations) ≡ None
+  operands_behind = (none_parts (relation_rules operand_rules d select.relations) _ columns_behind).1
+
+  -- **No rule refuses a relation of a SELECT that isn't refused.**
+  pub can_ask : AllByRecursion (CanAsk d) select.relations
+  can_ask =
+      let operands = none_parts (relation_rules operand_rules d select.relations) _ columns_behind in
+      let limit = none_first (limit_range select.limit) _ operands_behind in
+      let searches = none_parts (relation_rules search_rules d select.relations) _ limit.1 in
+      each_can d select.relations can.written.2 (all_pass d select.relations operands.0 searches.0)
+
+  -- **Nor its LIMIT.**
+  pub limit_within : (limit_range select.limit).0 ≡ false
+  limit_within = (none_first (limit_range select.limit) _ operands_behind).0
 
 -- ---- the literal
 

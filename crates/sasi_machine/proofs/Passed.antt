@@ -1,5 +1,5 @@
 -- Rules that are tried on one thing after another.
-use Rattle.std.proofs.Common.{◌≡◌, ℕ, suc, ◌+◌, ◌<◌, List, [], ◌∷◌, ◌++◌, length, drop, get_or, Option, None, Some, Result, Ok, Err, IfOk, add-one, sym, ◌∙◌}
+use Rattle.std.proofs.Common.{◌≡◌, ℕ, suc, ◌+◌, ◌<◌, List, [], ◌∷◌, ◌++◌, length, drop, get_or, Option, None, Some, Result, Ok, Err, IfOk, true, false, if◌then◌else◌, add-one, sym, ap, ◌∙◌}
 use Rattle.std.specs.List.{flat_map}
 use Rattle.std.specs.Option.{option_map}
 use Rattle.std.proofs.Math.Seq.{drop-cons}
@@ -38,3 +38,10 @@ group_passes f groups i d inside passed none = passed ∙ rw (add-one, drop-cons
 pub refusal_behind : {E : Type 0} (a b : List RefusalRule) (result : Result (Option Named) E) → first_refusal a ≡ None → IfOk result (λ found. option_map refusal_of found ≡ first_refusal b) → IfOk result (λ found. option_map refusal_of found ≡ first_refusal (a ++ b))
 refusal_behind a b (Ok found) none is = is ∙ sym (first_behind a b none)
 refusal_behind a b (Err e) none is = tt
+
+pub one_behind : {E : Type 0} (rule : RefusalRule) (b : List RefusalRule) (result : Result (Option Named) E) → rule.0 ≡ false → IfOk result (λ found. option_map refusal_of found ≡ first_refusal b) → IfOk result (λ found. option_map refusal_of found ≡ first_refusal (rule ∷ b))
+one_behind rule b (Ok found) passes is = is ∙ sym (ap (λ t. if t then Some rule.1 else first_refusal b) passes)
+one_behind rule b (Err e) passes is = tt
+
+pub one_refuses : (rule : RefusalRule) (b : List RefusalRule) → rule.0 ≡ true → first_refusal (rule ∷ b) ≡ Some rule.1
+one_refuses rule b applies = ap (λ t. if t then Some rule.1 else first_refusal b) applies

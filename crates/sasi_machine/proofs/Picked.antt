@@ -1,9 +1,9 @@
 -- Columns that are picked by their numbers.
-use Rattle.std.proofs.Common.{◌≡◌, ℕ, zero, suc, ◌+◌, ◌<◌, Bool, true, false, cond, if◌then◌else◌, List, [], ◌∷◌, ◌++◌, length, drop, get_or, map, Option, None, Some, refl, sym, ap, ◌∙◌, add-one, append_assoc, arith}
+use Rattle.std.proofs.Common.{◌≡◌, ℕ, zero, suc, ◌+◌, ◌<◌, Bool, true, false, cond, if◌then◌else◌, List, [], ◌∷◌, ◌++◌, length, drop, get_or, map, take, Option, None, Some, refl, sym, ap, ◌∙◌, add-one, append_assoc, arith}
 use Rattle.std.specs.List.{cons_option}
 use Rattle.std.specs.Option.{option_map}
 use Rattle.std.proofs.Math.Seq.{drop-cons}
-use Rattle.std.proofs.lemmas.List.{append-nil, map-append}
+use Rattle.std.proofs.lemmas.List.{append-nil, map-append, take-map}
 use Rattle.sasi_types.specs.declared.column.ColumnType.{ColumnType}
 use Rattle.sasi_types.specs.declared.decorated_key.DecoratedKey.{DecoratedKey}
 use Rattle.sasi_types.specs.declared.statement.Select.{Select}
@@ -12,7 +12,7 @@ use Rattle.sasi_cells.specs.Rows.{picked_value}
 use Rattle.sasi_model.specs.Cells.{Partition}
 use Rattle.sasi_model.specs.State.{Column, Definition, number_of_column}
 use Rattle.sasi_model.specs.Conditions.{Condition, condition_of}
-use Rattle.sasi_model.specs.Filters.{Filter, answers, filter_of, rows}
+use Rattle.sasi_model.specs.Filters.{Filter, answers, filter_of, limited, row_limit, rows, rows_up_to}
 use Rattle.sasi_model.specs.Lines.{rows_lines}
 use Rattle.sasi_model.specs.Step.{select_lines, selected_columns, value_numbered, values_numbered}
 use Rattle.sasi_model.specs.Values.{value_stored}
@@ -72,12 +72,19 @@ rows_by_numbers d numbers f (entry ∷ entries) at = by (answers f entry) (rows_
     by true rest = rw (values_picked d entry.0 entry.1 numbers at, rest) refl
     by false rest = rest
 
+-- of the first rows the values are the first
+limited_by_numbers : (d : Definition) (numbers : List ℕ) (limit : Option ℕ) (f : Filter) (entries : List (DecoratedKey × Partition)) → IsKeyAt d.key d.columns
+    → limited limit (rows_picked (key_type d) (map pick numbers) f entries) ≡ map (values_numbered d numbers) (rows_up_to limit f entries)
+limited_by_numbers d numbers None f entries at = rows_by_numbers d numbers f entries at
+limited_by_numbers d numbers (Some n) f entries at = ap (take n) (rows_by_numbers d numbers f entries at) ∙ take-map (values_numbered d numbers) n (rows f entries)
+
 -- **The lines of picked rows are those of the SELECT that picks them.**
-pub lines_by_numbers : (d : Definition) (select : Select) (kind : ColumnType) (columns : List PickedColumn) (conditions : List Condition) (entries : List (DecoratedKey × Partition)) → IsKeyAt d.key d.columns
-    → kind ≡ key_type d → columns ≡ map pick (selected_columns d select.columns) → conditions ≡ map (condition_of d) select.relations
-    → rows_lines (rows_picked kind columns (where_of conditions) entries) ≡ select_lines d select entries
-lines_by_numbers d select kind columns conditions entries at kind_is columns_are conditions_are =
-    ap (λ (k : ColumnType). rows_lines (rows_picked k columns (where_of conditions) entries)) kind_is
-    ∙ ap (λ (cs : List PickedColumn). rows_lines (rows_picked (key_type d) cs (where_of conditions) entries)) columns_are
-    ∙ ap (λ (cs : List Condition). rows_lines (rows_picked (key_type d) (map pick (selected_columns d select.columns)) (where_of cs) entries)) conditions_are
-    ∙ ap rows_lines (rows_by_numbers d (selected_columns d select.columns) (filter_of d select.relations) entries at)
+pub lines_by_numbers : (d : Definition) (select : Select) (kind : ColumnType) (columns : List PickedColumn) (conditions : List Condition) (limit : Option ℕ) (entries : List (DecoratedKey × Partition)) → IsKeyAt d.key d.columns
+    → kind ≡ key_type d → columns ≡ map pick (selected_columns d select.columns) → conditions ≡ map (condition_of d) select.relations → limit ≡ row_limit select.limit
+    → rows_lines (limited limit (rows_picked kind columns (where_of conditions) entries)) ≡ select_lines d select entries
+lines_by_numbers d select kind columns conditions limit entries at kind_is columns_are conditions_are limit_is =
+    ap (λ (k : ColumnType). rows_lines (limited limit (rows_picked k columns (where_of conditions) entries))) kind_is
+    ∙ ap (λ (cs : List PickedColumn). rows_lines (limited limit (rows_picked (key_type d) cs (where_of conditions) entries))) columns_are
+    ∙ ap (λ (cs : List Condition). rows_lines (limited limit (rows_picked (key_type d) (map pick (selected_columns d select.columns)) (where_of cs) entries))) conditions_are
+    ∙ ap (λ (o : Option ℕ). rows_lines (limited o (rows_picked (key_type d) (map pick (selected_columns d select.columns)) (filter_of d select.relations) entries))) limit_is
+    ∙ ap rows_lines (limited_by_numbers d (selected_columns d select.columns) (row_limit select.limit) (filter_of d select.relations) entries at)

@@ -5,7 +5,7 @@ use Rattle.sasi_types.specs.declared.literal.Literal.{Literal}
 use Rattle.sasi_types.specs.declared.literal.Number.{Number}
 use Rattle.sasi_types.specs.declared.relation.Relation.{Relation}
 use Rattle.sasi_model.specs.State.{Definition}
-use Rattle.sasi_model.specs.Refusals.{RefusalRule, each, is_column, is_filtered, is_key, key_empty, number_range, relation_rules, time_rules, value_too_long, wrong_type, wrong_where}
+use Rattle.sasi_model.specs.Refusals.{RefusalRule, each, is_column, is_filtered, is_key, key_empty, limit_range, number_range, operand_rules, relation_rules, search_rules, time_rules, value_too_long, wrong_type, wrong_where}
 use Rattle.sasi_model.specs.Abbreviations.{KeyMissing, NeedsFiltering, TIME_LIMIT, TooManyRelations, gives_key, key_name}
 use Rattle.sasi_model.specs.Step.{timestamp}
 use Rattle.sasi_machine.specs.declared.relation.KeyRelation.{KeyRelation}
@@ -51,5 +51,11 @@ abbrev pub count_rules : Definition → Bool → List Relation → List RefusalR
 count_rules d filtering relations =
     (not filtering && (nat_le 2 (length relations) || list_any (is_filtered d) relations), NeedsFiltering) ∷ (nat_lt 32 (length relations), TooManyRelations) ∷ []
 
-abbrev pub after_columns_rules : Definition → Bool → List Relation → List RefusalRule
-after_columns_rules d filtering relations = relation_rules d relations ++ count_rules d filtering relations
+abbrev pub after_limit_rules : Definition → Bool → List Relation → List RefusalRule
+after_limit_rules d filtering relations = relation_rules search_rules d relations ++ count_rules d filtering relations
+
+abbrev pub after_operands_rules : Definition → Option Number → Bool → List Relation → List RefusalRule
+after_operands_rules d limit filtering relations = limit_range limit ∷ after_limit_rules d filtering relations
+
+abbrev pub after_columns_rules : Definition → Option Number → Bool → List Relation → List RefusalRule
+after_columns_rules d limit filtering relations = relation_rules operand_rules d relations ++ after_operands_rules d limit filtering relations

@@ -3,7 +3,7 @@ use Rattle.sasi_schema.specs.Faults.{limit_refusal}
 use Rattle.sasi_model.specs.Refusals as rules
 use Rattle.sasi_model.specs.Abbreviations as model
 use Rattle.sasi_machine.specs.declared.refusal.Refusal.{Refusal}
-use Rattle.sasi_machine.specs.declared.refusal.Refusal.TheVariants.{Syntax, StatementTooLong, NotUtf8, NoTable, TableExists, NoColumn, ColumnRepeated, WrongType, NumberRange, KeyMissing, KeyEmpty, ValueTooLong, IndexExists, BadOption, BadUsing, ModeType, OperatorUnsupported, LikeEmpty, NeedsFiltering, TimestampRange, ClockSpent, TooMany, TooManyRelations, ScriptEnds, NotBuilt}
+use Rattle.sasi_machine.specs.declared.refusal.Refusal.TheVariants.{Syntax, StatementTooLong, NotUtf8, NoTable, TableExists, NoColumn, ColumnRepeated, WrongType, NumberRange, LimitRange, KeyMissing, KeyEmpty, ValueTooLong, IndexExists, BadOption, BadUsing, ModeType, OperatorUnsupported, LikeEmpty, NeedsFiltering, TimestampRange, ClockSpent, TooMany, TooManyRelations, ScriptEnds, NotBuilt}
 
 -- the model's refusal of that name
 abbrev pub refusal_of : Refusal → rules.Refusal
@@ -16,6 +16,7 @@ refusal_of (NoColumn name) = model.NoColumn name
 refusal_of (ColumnRepeated name) = model.ColumnRepeated name
 refusal_of (WrongType column) = model.WrongType column
 refusal_of (NumberRange column) = model.NumberRange column
+refusal_of LimitRange = model.LimitRange
 refusal_of (KeyMissing column) = model.KeyMissing column
 refusal_of (KeyEmpty column) = model.KeyEmpty column
 refusal_of (ValueTooLong column) = model.ValueTooLong column

@@ -1,6 +1,7 @@
 -- The rows of a table.
-use Rattle.std.specs.Prelude.{◌≡◌, true, List, [], ◌∷◌, Option, Some, is_some, map, if◌then◌else◌}
+use Rattle.std.specs.Prelude.{◌≡◌, ◌++◌, length, ℕ, nat_le, Bool, true, false, List, [], ◌∷◌, Option, None, Some, is_some, map, if◌then◌else◌}
 use Rattle.std.specs.FinMap as map_
+use Rattle.std.specs.List.{flat_map}
 use Rattle.sasi_types.specs.declared.column.ColumnType.{ColumnType}
 use Rattle.sasi_types.specs.declared.decorated_key.DecoratedKey.{DecoratedKey}
 use Rattle.sasi_types.specs.declared.value.Value.{Value}
@@ -8,7 +9,7 @@ use Rattle.sasi_cells.specs.declared.picked.PickedColumn.{PickedColumn}
 use Rattle.sasi_cells.specs.Rows.{IsStored, picked_value}
 use Rattle.sasi_model.specs.Cells.{Partition}
 use Rattle.sasi_model.specs.Filters.{Filter, answers}
-use Rattle.sasi_model.specs.Abbreviations.{Partitions}
+use Rattle.sasi_model.specs.Abbreviations.{Partitions, row_line}
 use Rattle.sasi_machine.specs.Where.{HasTexts}
 
 -- the keys are values of the type
@@ -29,3 +30,13 @@ abbrev pub rows_picked : ColumnType → List PickedColumn → Filter → List (D
 rows_picked kind columns f [] = []
 rows_picked kind columns f (entry ∷ entries) =
     if answers f entry then map (picked_value kind entry.0.key entry.1) columns ∷ rows_picked kind columns f entries else rows_picked kind columns f entries
+
+-- LIMIT allows no more rows than so many
+abbrev pub is_full : Option ℕ → ℕ → Bool
+is_full None rows = false
+is_full (Some limit) rows = nat_le limit rows
+
+-- these rows were printed, so many
+pub record ArePrinted (rows : List (List (Option Value))) (reply_old reply_new : List ℕ) (count : ℕ) : Type 0 where
+  pub reply_is : reply_new ≡ reply_old ++ flat_map row_line rows
+  pub count_is : count ≡ length rows

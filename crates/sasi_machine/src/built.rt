@@ -13,9 +13,9 @@ pub fn is_built(statement: &Statement) -> bool
         | Statement::Insert { .. }
         | Statement::Update { .. }
         | Statement::Delete { .. }
+        | Statement::Query { .. }
         | Statement::Flush { .. } => true,
         Statement::CreateIndex { stepped, .. } => !*stepped,
-        Statement::Query { select } => select.limit.is_none(),
         _ => false,
     }
 }

@@ -14,6 +14,7 @@ mod conditions;
 mod fault;
 mod index;
 mod key;
+mod limit;
 mod literal_rule;
 mod literals;
 mod machine;

@@ -148,6 +148,7 @@ fn reason_of(refusal: &Refusal) -> (&[u8], &[u8])
         Refusal::ColumnRepeated(name) => (b"ColumnRepeated ", name.bytes()),
         Refusal::WrongType(name) => (b"WrongType ", name.bytes()),
         Refusal::NumberRange(name) => (b"NumberRange ", name.bytes()),
+        Refusal::LimitRange => (b"NumberRange LIMIT", b""),
         Refusal::KeyMissing(name) => (b"KeyMissing ", name.bytes()),
         Refusal::KeyEmpty(name) => (b"KeyEmpty ", name.bytes()),
         Refusal::ValueTooLong(name) => (b"ValueTooLong ", name.bytes()),

@@ -19,6 +19,8 @@ pub enum Refusal {
     ColumnRepeated(Name),
     WrongType(Name),
     NumberRange(Name),
+    /// The LIMIT isn't a number of rows.
+    LimitRange,
     KeyMissing(Name),
     KeyEmpty(Name),
     ValueTooLong(Name),
@@ -60,7 +62,7 @@ impl Refusal {
             Refusal::NoColumn(_) => 6,
             Refusal::ColumnRepeated(_) => 7,
             Refusal::WrongType(_) => 8,
-            Refusal::NumberRange(_) => 9,
+            Refusal::NumberRange(_) | Refusal::LimitRange => 9,
             Refusal::KeyMissing(_) => 10,
             Refusal::KeyEmpty(_) => 11,
             Refusal::ValueTooLong(_) => 12,

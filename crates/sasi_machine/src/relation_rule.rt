@@ -5,7 +5,7 @@ ghost use Rattle.std.specs.Option.{option_map};
 ghost use Rattle.std.specs.Str.{IsUtf8};
 ghost use Rattle.sasi_types.specs.declared.relation.Relation.{Relation as Seen};
 ghost use Rattle.sasi_model.specs.Abbreviations.{first_refusal};
-ghost use Rattle.sasi_model.specs.Refusals.{like_empty, relation_rules};
+ghost use Rattle.sasi_model.specs.Refusals.{like_empty, operand_rules, relation_rules, search_rules};
 ghost use Rattle.sasi_model.specs.Relations.{asks_nothing, rule_on};
 ghost use Rattle.sasi_model.specs.State.{Definition};
 ghost use Rattle.sasi_model.specs.WellFormed.{IsWellFormedRelation};
@@ -34,30 +34,49 @@ pub enum RelationRule {
     LikeEmpty,
 }
 
-/// In the order in which they are tried, each on all relations before the next.
-const RULES: [RelationRule; 7] = [
+/// In the order in which they are tried, each on all relations before the next. LIMIT is tried after these.
+const OPERAND_RULES: [RelationRule; 3] = [
     RelationRule::Column(NameRule::NoColumn),
     RelationRule::Operand(LiteralRule::WrongWhere),
     RelationRule::Operand(LiteralRule::NumberRange),
+];
+
+/// Those that are tried after LIMIT.
+const SEARCH_RULES: [RelationRule; 4] = [
     RelationRule::Operand(LiteralRule::KeyEmpty),
     RelationRule::Operand(LiteralRule::ValueTooLong),
     RelationRule::OperatorUnsupported,
     RelationRule::LikeEmpty,
 ];
 
-/// The refusal of the first rule that applies to a relation, if one does.
-pub fn relations_refusal(
+/// The refusal of the first rule on operands that applies to a relation, if one does.
+pub fn operands_refusal(
     alloc: Global,
     table: &Table,
     relations: &[Relation],
     kit: &mut Kit,
 ) -> Result<Option<Refusal>, KitFault>
     requires { AllByRecursion IsWellFormedRelation relations.now }
-    ensures refusal { IfOk result (λ refusal. option_map refusal_of refusal ≡ first_refusal (relation_rules (definition table.now) relations.now)) }
+    ensures refusal { IfOk result (λ refusal. option_map refusal_of refusal ≡ first_refusal (relation_rules operand_rules (definition table.now) relations.now)) }
     ensures missing { IfErr result (OnMissing (TableLacks (map (λ b. kind (b.vtable, b.value)) kit.old.objects.items) (definition table.now))) }
     ensures kinds { map (λ b. kind (b.vtable, b.value)) kit.new.objects.items ≡ map (λ b. kind (b.vtable, b.value)) kit.old.objects.items }
 {
-    first_refusal(alloc, table, &RULES, relations, kit)
+    first_refusal(alloc, table, &OPERAND_RULES, relations, kit)
+}
+
+/// The refusal of the first rule on searches that applies to a relation, if one does.
+pub fn searches_refusal(
+    alloc: Global,
+    table: &Table,
+    relations: &[Relation],
+    kit: &mut Kit,
+) -> Result<Option<Refusal>, KitFault>
+    requires { AllByRecursion IsWellFormedRelation relations.now }
+    ensures refusal { IfOk result (λ refusal. option_map refusal_of refusal ≡ first_refusal (relation_rules search_rules (definition table.now) relations.now)) }
+    ensures missing { IfErr result (OnMissing (TableLacks (map (λ b. kind (b.vtable, b.value)) kit.old.objects.items) (definition table.now))) }
+    ensures kinds { map (λ b. kind (b.vtable, b.value)) kit.new.objects.items ≡ map (λ b. kind (b.vtable, b.value)) kit.old.objects.items }
+{
+    first_refusal(alloc, table, &SEARCH_RULES, relations, kit)
 }
 
 // That of the first of these rules.

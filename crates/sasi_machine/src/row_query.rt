@@ -7,17 +7,18 @@ ghost use Rattle.sasi_cells.specs.Rows.{IsStored};
 ghost use Rattle.sasi_model.specs.Abbreviations.{key_type, row_line};
 ghost use Rattle.sasi_model.specs.Cells.{Partition as Cells};
 ghost use Rattle.sasi_model.specs.Conditions.{condition_of};
-ghost use Rattle.sasi_model.specs.Filters.{answers};
+ghost use Rattle.sasi_model.specs.Filters.{answers, limited, row_limit};
 ghost use Rattle.sasi_model.specs.Lines.{rows_lines};
 ghost use Rattle.sasi_model.specs.Step.{select_lines, selected_columns};
 ghost use Rattle.sasi_schema.specs.Defined.{definition};
 ghost use Rattle.sasi_machine.specs.Classes.{OnMissing, TableLacks, WhereLacks};
 ghost use Rattle.sasi_machine.specs.Operands.{CanSelect};
 ghost use Rattle.sasi_machine.specs.Picks.{pick};
-ghost use Rattle.sasi_machine.specs.TableRows.{rows_picked};
+ghost use Rattle.sasi_machine.specs.TableRows.{is_full, rows_picked};
 ghost use Rattle.sasi_machine.specs.Where.{HasTexts, where_of};
 
 use crate::conditions::conditions_of;
+use crate::limit::row_limit;
 use crate::picking::picked;
 use crate::{Reply, RowFilter};
 use sasi_analyzers::Kit;
@@ -26,11 +27,13 @@ use sasi_schema::Table;
 use sasi_types::{Key, KitFault, Select};
 use std::alloc::Global;
 
-/// What a SELECT asks of the rows of a table: which of them, and which of their columns.
+/// What a SELECT asks of the rows of a table: which of them, which of their columns, and how many at most.
 #[derive(Drop)]
 pub struct RowQuery {
     pub picked: Picked,
     pub filter: RowFilter,
+    /// How many rows it prints at most, where it has a LIMIT.
+    pub limit: Option<u64>,
 }
 
 impl RowQuery {
@@ -44,10 +47,11 @@ impl RowQuery {
         requires { CanSelect (definition table.now) select.now }
         ensures key { IfOk result (λ query. query.picked.key ≡ key_type (definition table.now)) }
         ensures columns { IfOk result (λ query. query.picked.columns ≡ map pick (selected_columns (definition table.now) select.now.columns)) }
+        ensures limit { IfOk result (λ query. query.limit ≡ row_limit select.now.limit) }
         ensures filter { IfOk result (λ query. query.filter ≡ map (condition_of (definition table.now)) select.now.relations) }
 
         // The lines of its rows are those of the SELECT.
-        ensures lines { IfOk result (λ query. (entries : List (DecoratedKey × Cells)) → rows_lines (rows_picked query.picked.key query.picked.columns (where_of query.filter) entries) ≡ select_lines (definition table.now) select.now entries) }
+        ensures lines { IfOk result (λ query. (entries : List (DecoratedKey × Cells)) → rows_lines (limited query.limit (rows_picked query.picked.key query.picked.columns (where_of query.filter) entries)) ≡ select_lines (definition table.now) select.now entries) }
 
         // A class is missing only where an index of the table needs it, and so it is when a row is tested.
         ensures classes { IfOk result (λ query. (kinds : List Class) (class : Class) → WhereLacks kinds query.filter class → TableLacks kinds (definition table.now) class) }
@@ -60,7 +64,18 @@ impl RowQuery {
         Ok(RowQuery {
             picked,
             filter: RowFilter::new(alloc, conditions),
+            limit: row_limit(select.limit),
         })
+    }
+
+    /// Whether no further row is to be printed after so many.
+    pub fn is_full(&self, rows: u64) -> bool
+        ensures { result ≡ is_full self.now.limit rows }
+    {
+        match self.limit {
+            Some(limit) => limit <= rows,
+            None => false,
+        }
     }
 
     /// Prints the row of the partition of a key, where it is there and accepted, and gives 1. Else it prints nothing and gives 0.

@@ -6,18 +6,19 @@ ghost use Rattle.sasi_model.specs.Abbreviations.{first_refusal};
 ghost use Rattle.sasi_model.specs.Refusals.{is_filtered, no_column, select_rules};
 ghost use Rattle.sasi_model.specs.WellFormed.{IsWellFormedRelation, IsWellFormedSelect};
 ghost use Rattle.sasi_schema.specs.Defined.{definition};
-ghost use Rattle.sasi_machine.specs.Checks.{after_columns_rules, count_rules};
+ghost use Rattle.sasi_machine.specs.Checks.{after_columns_rules, after_limit_rules, after_operands_rules, count_rules};
 ghost use Rattle.sasi_machine.specs.Classes.{OnMissing, TableLacks};
 ghost use Rattle.sasi_machine.specs.Refusal.{refusal_of};
 
 use crate::Refusal;
 use crate::fault::Fault;
+use crate::limit::is_out_of_range;
 use crate::name_rule::NameRule;
 use crate::operators::is_filtered;
-use crate::relation_rule::relations_refusal;
+use crate::relation_rule::{operands_refusal, searches_refusal};
 use sasi_analyzers::Kit;
 use sasi_schema::Table;
-use sasi_types::{KitFault, Names, Relation, Select};
+use sasi_types::{KitFault, Names, Number, Relation, Select};
 use std::alloc::{AllocError, Global};
 
 /// The most relations that a SELECT has.
@@ -39,7 +40,14 @@ pub fn select_refusal(
         return Ok(Some(refusal));
     }
     let relations = select.relations.unpack(alloc)?;
-    where_refusal(alloc, table, select.filtering, &relations, kit)
+    where_refusal(
+        alloc,
+        table,
+        select.limit,
+        select.filtering,
+        &relations,
+        kit,
+    )
 }
 
 // That of the columns that it names.
@@ -64,16 +72,56 @@ fn columns_refusal(
 fn where_refusal(
     alloc: Global,
     table: &Table,
+    limit: Option<Number>,
     filtering: bool,
     relations: &[Relation],
     kit: &mut Kit,
 ) -> Result<Option<Refusal>, KitFault>
     requires { AllByRecursion IsWellFormedRelation relations.now }
-    ensures refusal { IfOk result (λ refusal. option_map refusal_of refusal ≡ first_refusal (after_columns_rules (definition table.now) filtering relations.now)) }
+    ensures refusal { IfOk result (λ refusal. option_map refusal_of refusal ≡ first_refusal (after_columns_rules (definition table.now) limit filtering relations.now)) }
     ensures missing { IfErr result (OnMissing (TableLacks (map (λ b. kind (b.vtable, b.value)) kit.old.objects.items) (definition table.now))) }
     ensures kinds { map (λ b. kind (b.vtable, b.value)) kit.new.objects.items ≡ map (λ b. kind (b.vtable, b.value)) kit.old.objects.items }
 {
-    match relations_refusal(alloc, table, relations, kit)? {
+    match operands_refusal(alloc, table, relations, kit)? {
+        Some(refusal) => Ok(Some(refusal)),
+        None => limit_refusal(alloc, table, limit, filtering, relations, kit),
+    }
+}
+
+// That of LIMIT and of what is tried after it.
+fn limit_refusal(
+    alloc: Global,
+    table: &Table,
+    limit: Option<Number>,
+    filtering: bool,
+    relations: &[Relation],
+    kit: &mut Kit,
+) -> Result<Option<Refusal>, KitFault>
+    requires { AllByRecursion IsWellFormedRelation relations.now }
+    ensures refusal { IfOk result (λ refusal. option_map refusal_of refusal ≡ first_refusal (after_operands_rules (definition table.now) limit filtering relations.now)) }
+    ensures missing { IfErr result (OnMissing (TableLacks (map (λ b. kind (b.vtable, b.value)) kit.old.objects.items) (definition table.now))) }
+    ensures kinds { map (λ b. kind (b.vtable, b.value)) kit.new.objects.items ≡ map (λ b. kind (b.vtable, b.value)) kit.old.objects.items }
+{
+    if is_out_of_range(limit) {
+        return Ok(Some(Refusal::LimitRange));
+    }
+    search_refusal(alloc, table, filtering, relations, kit)
+}
+
+// That of the searches that it asks for, and of ALLOW FILTERING.
+fn search_refusal(
+    alloc: Global,
+    table: &Table,
+    filtering: bool,
+    relations: &[Relation],
+    kit: &mut Kit,
+) -> Result<Option<Refusal>, KitFault>
+    requires { AllByRecursion IsWellFormedRelation relations.now }
+    ensures refusal { IfOk result (λ refusal. option_map refusal_of refusal ≡ first_refusal (after_limit_rules (definition table.now) filtering relations.now)) }
+    ensures missing { IfErr result (OnMissing (TableLacks (map (λ b. kind (b.vtable, b.value)) kit.old.objects.items) (definition table.now))) }
+    ensures kinds { map (λ b. kind (b.vtable, b.value)) kit.new.objects.items ≡ map (λ b. kind (b.vtable, b.value)) kit.old.objects.items }
+{
+    match searches_refusal(alloc, table, relations, kit)? {
         Some(refusal) => Ok(Some(refusal)),
         None => Ok(count_refusal(table, filtering, relations)),
     }

@@ -14,11 +14,11 @@ pub returns-in-Some-clause-refusal : goal.returns-in-Some-clause-refusal
 returns-in-Some-clause-refusal g c =
     let d = definition c.args.table.now in
     let select = c.args.select.now in
-    sym (first_before (map (no_column d) (unwrap_or select.columns [])) (after_columns_rules d select.filtering select.relations) (refusal_of c.in-Some.refusal) (sym c.in_ok-refusal.ensures ∙ ap (option_map refusal_of) c.in-Some.is))
+    sym (first_before (map (no_column d) (unwrap_or select.columns [])) (after_columns_rules d select.limit select.filtering select.relations) (refusal_of c.in-Some.refusal) (sym c.in_ok-refusal.ensures ∙ ap (option_map refusal_of) c.in-Some.is))
 
 pub returns-clause-refusal : goal.returns-clause-refusal
 returns-clause-refusal g c =
     let d = definition c.args.table.now in
     let select = c.args.select.now in
-    refusal_behind (map (no_column d) (unwrap_or select.columns [])) (after_columns_rules d select.filtering select.relations) c.where_refusal.result (sym c.in_ok-refusal.ensures ∙ ap (option_map refusal_of) c.in_default.is)
-    (subst (λ (rs : List Relation). IfOk c.where_refusal.result (λ refusal. option_map refusal_of refusal ≡ first_refusal (after_columns_rules d select.filtering rs))) (c.deref.ensures.value ∙ c.in_ok-relations.ensures) c.where_refusal.ensures.refusal)
+    refusal_behind (map (no_column d) (unwrap_or select.columns [])) (after_columns_rules d select.limit select.filtering select.relations) c.where_refusal.result (sym c.in_ok-refusal.ensures ∙ ap (option_map refusal_of) c.in_default.is)
+    (subst (λ (rs : List Relation). IfOk c.where_refusal.result (λ refusal. option_map refusal_of refusal ≡ first_refusal (after_columns_rules d select.limit select.filtering rs))) (c.deref.ensures.value ∙ c.in_ok-relations.ensures) c.where_refusal.ensures.refusal)

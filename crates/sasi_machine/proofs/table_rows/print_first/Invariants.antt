@@ -1,20 +1,18 @@
-use Rattle.std.proofs.Common.{◌≡◌, ◌+◌, ◌++◌, length, map}
+use Rattle.std.proofs.Common.{◌≡◌, map}
 use Rattle.std.specs.FinMap as fin
-use Rattle.std.specs.List.{flat_map}
-use Rattle.sasi_model.specs.Abbreviations.{row_line}
 use Rattle.sasi_machine.specs.TableRows.{rows_picked}
 use Rattle.sasi_machine.specs.Where.{where_of}
+use Rattle.sasi_machine.proofs.Printed.{HasPrinted}
 use Rattle.sasi_machine.proofs.Stored.{AllStored, AllTexts}
-use Rattle.sasi_machine.proofs.table_rows.print_rows.Given as goal
+use Rattle.sasi_machine.proofs.table_rows.print_first.Given as goal
 
 -- what is printed so far and the rows that are left are all rows
 abbrev pub invariant-loop-decorated_key : goal.invariant-loop-decorated_key
 invariant-loop-decorated_key g l =
-    let rest = rows_picked l.query.picked.key l.query.picked.columns (where_of l.query.filter) l.decorated_key-iterator in
+    let left = rows_picked l.query.picked.key l.query.picked.columns (where_of l.query.filter) l.decorated_key-iterator in
     let all = rows_picked l.query.picked.key l.query.picked.columns (where_of l.query.filter) (fin.entries l.memtable.partitions) in
     record {
-      printed : l.reply ++ flat_map row_line rest ≡ l.fn.reply ++ flat_map row_line all;
-      counted : l.rows + length rest ≡ length all;
+      printing : HasPrinted l.query.limit all left l.fn.reply l.reply l.rows;
       stored : AllStored l.query.picked.key l.decorated_key-iterator;
       texts : AllTexts l.decorated_key-iterator;
       kinds : map (λ b. (goal.Analyzer-dyn g (b.vtable, b.value)).kind b.value) l.kit.objects.items ≡ map (λ b. (goal.Analyzer-dyn g (b.vtable, b.value)).kind b.value) l.fn.kit.objects.items;
