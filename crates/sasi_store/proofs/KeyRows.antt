@@ -1,5 +1,5 @@
 -- The rows of a table that a SELECT with a relation on the key asks for are those of that key.
-use Rattle.std.proofs.Common.{◌≡◌, ◌&&◌, ℕ, Bool, true, false, cond, if◌then◌else◌, T, List, [], ◌∷◌, ◌++◌, map, Option, Some, is_some, refl, sym, ap, ◌∙◌}
+use Rattle.std.proofs.Common.{◌≡◌, ◌≤◌, subst, Result, Ok, Err, IfOk, None, ◌&&◌, ℕ, Bool, true, false, cond, if◌then◌else◌, T, List, [], ◌∷◌, ◌++◌, map, Option, Some, is_some, refl, sym, ap, ◌∙◌}
 use Rattle.std.proofs.lemmas.Bool.{false_from_ne_true}
 use Rattle.std.proofs.lemmas.Cmp.{tied_itself}
 use Rattle.std.proofs.lemmas.List.{append-nil}
@@ -16,20 +16,21 @@ use Rattle.sasi_types.specs.DecoratedKey.{decorated_cmp, decorated_total}
 use Rattle.sasi_model.specs.Abbreviations.{Partitions, count_line}
 use Rattle.sasi_model.specs.Cells.{Partition, is_live}
 use Rattle.sasi_model.specs.Conditions.{Condition}
-use Rattle.sasi_model.specs.Filters.{Filter, accepts, answers}
+use Rattle.sasi_model.specs.Filters.{Filter, accepts, answers, limited}
 use Rattle.sasi_model.specs.Lines.{rows_lines}
 use Rattle.sasi_model.specs.State.{decorated}
 use Rattle.sasi_cells.specs.declared.picked.PickedColumn.{PickedColumn}
 use Rattle.sasi_cells.specs.Rows.{picked_value}
 use Rattle.sasi_cells.proofs.Laws.Decorated.{entries_have, equal_keys, none_below}
-use Rattle.sasi_machine.specs.TableRows.{rows_picked}
+use Rattle.sasi_machine.specs.TableRows.{ArePrinted, is_full, rows_picked}
 use Rattle.sasi_machine.specs.Where.{key_asked, where_of}
 use Rattle.sasi_machine.specs.declared.row_query.RowQuery.{RowQuery}
 use Rattle.sasi_machine.proofs.AskedKeys.{asked_alone}
+use Rattle.sasi_machine.proofs.Printed.{answer_is, printed_all, printed_once, printing_begins}
 use Rattle.sasi_memtable.specs.MemtableView.{AreDecorated}
+use Rattle.sasi_merge.specs.Merging.{with_token}
 use Rattle.sasi_merge.specs.Streams.{Entries, IsRising}
-use Rattle.sasi_store.specs.Printing.{ArePrinted, entry_found, rows_of}
-use Rattle.sasi_store.proofs.Printing.{answer_is}
+use Rattle.sasi_store.specs.Printing.{asked_rows, entry_found, rows_of}
 
 both_true : (a b : Bool) → T (a && b) → T a × T b
 both_true true b h = (tt, h)
@@ -80,14 +81,24 @@ rows_of_key kind columns conditions p asked m is all =
 
 -- ---- printing
 
-pub none_printed : (query : RowQuery) (reply : List ℕ) → ArePrinted query [] reply reply 0
-none_printed query reply = record { reply_is = sym (append-nil reply); rows_are = refl }
+-- the row of what was found of a key
+pub found_printed : {E : Type 0} (query : RowQuery) (key : List ℕ) (found : Option Partition) (part : Partition) (reply_old reply : List ℕ) (result : Result ℕ E) → found ≡ Some part → is_full query.limit 0 ≡ false
+    → IfOk result (λ rows. (token : ℕ) → ArePrinted (rows_of query ((with_token token key, part) ∷ [])) reply_old reply rows) → IfOk result (λ rows. rows ≤ 1)
+    → IfOk result (λ rows. (token : ℕ) → ArePrinted (asked_rows query (entry_found (with_token token key) found)) reply_old reply rows)
+found_printed query key found part reply_old reply (Err e) is room printed few = tt
+found_printed query key found part reply_old reply (Ok rows) is room printed few token =
+    subst (λ (o : Option Partition). ArePrinted (asked_rows query (entry_found (with_token token key) o)) reply_old reply rows) (sym is)
+    (printed_once query.limit (rows_of query ((with_token token key, part) ∷ [])) reply_old reply rows room (printed token) few)
+
+pub nothing_printed : (query : RowQuery) (key : DecoratedKey) (found : Option Partition) (reply : List ℕ) → found ≡ None → ArePrinted (asked_rows query (entry_found key found)) reply reply 0
+nothing_printed query key found reply is =
+    subst (λ (o : Option Partition). ArePrinted (asked_rows query (entry_found key o)) reply reply 0) (sym is)
+    (printed_all query.limit [] [] reply reply 0 (printing_begins query.limit [] reply) refl)
 
 -- with their number they are the answer
 pub key_answer : (query : RowQuery) (p : Partitioner) (asked : List ℕ) (found : Option Partition) (m : Partitions) (reply_old reply reply_new : List ℕ) (rows : ℕ) → key_asked query.filter ≡ Some asked → AreDecorated p m → found ≡ map_.get m (decorated p asked)
-    → ArePrinted query (entry_found (decorated p asked) found) reply_old reply rows → reply_new ≡ reply ++ count_line rows → reply_new ≡ reply_old ++ rows_lines (rows_of query (map_.entries m))
+    → ArePrinted (asked_rows query (entry_found (decorated p asked) found)) reply_old reply rows → reply_new ≡ reply ++ count_line rows → reply_new ≡ reply_old ++ rows_lines (asked_rows query (map_.entries m))
 key_answer query p asked found m reply_old reply reply_new rows is all found_is printed counted =
-    let es = entry_found (decorated p asked) found in
-    answer_is query es es reply_old reply reply_new rows refl printed counted
-    ∙ ap (λ (o : Option Partition). reply_old ++ rows_lines (rows_of query (entry_found (decorated p asked) o))) found_is
-    ∙ ap (λ (rs : List (List (Option Value))). reply_old ++ rows_lines rs) (sym (rows_of_key query.picked.key query.picked.columns query.filter p asked m is all))
+    answer_is (asked_rows query (entry_found (decorated p asked) found)) reply_old reply reply_new rows printed counted
+    ∙ ap (λ (o : Option Partition). reply_old ++ rows_lines (asked_rows query (entry_found (decorated p asked) o))) found_is
+    ∙ ap (λ (rs : List (List (Option Value))). reply_old ++ rows_lines (limited query.limit rs)) (sym (rows_of_key query.picked.key query.picked.columns query.filter p asked m is all))

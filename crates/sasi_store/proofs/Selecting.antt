@@ -49,6 +49,7 @@ use Rattle.sasi_manifest.specs.ListedTables.{listed}
 use Rattle.sasi_memtable.specs.MemtableView.{AreDecorated, MemtableView}
 use Rattle.sasi_model.specs.Abbreviations.{key_type, types_of}
 use Rattle.sasi_model.specs.Cells.{Partition}
+use Rattle.sasi_model.specs.Filters.{limited}
 use Rattle.sasi_model.specs.Lines.{rows_lines}
 use Rattle.sasi_model.specs.Step.{select_lines}
 use Rattle.sasi_model.specs.Conditions.{Condition, condition_of}
@@ -159,7 +160,7 @@ pub record HasTable (p : Parts) (rows : Selection) (definition : Definition) (ty
 -- what is asked of a table with this definition
 pub record HasQuery (rows : Selection) (definition : Definition) (query : RowQuery) : Type 0 where
   pub key : query.picked.key ≡ key_type definition
-  pub lines : (all : List (DecoratedKey × Partition)) → rows_lines (rows_picked query.picked.key query.picked.columns (where_of query.filter) all) ≡ select_lines definition rows.select all
+  pub lines : (all : List (DecoratedKey × Partition)) → rows_lines (limited query.limit (rows_picked query.picked.key query.picked.columns (where_of query.filter) all)) ≡ select_lines definition rows.select all
   pub filter : query.filter ≡ map (condition_of definition) rows.select.relations
   pub classes : (kinds : List Class) (class : Class) → WhereLacks kinds query.filter class → TableLacks kinds definition class
 
@@ -285,7 +286,7 @@ module _ (v : View) (sound : IsSound v) (p : Parts) (ready : CanChange v (memory
 
       -- **The table that is printed is that of the layout.**
       pub is_printed : (q : Partitioner) → q ≡ listing.partitioner
-          → (folder : Folder) × (v.files ≡ Some folder) × (x : TableParts) × IsTableOf folder q types files (map (λ (m : MemtableView). m.partitions) maps) x × (rows_lines (rows_picked query.picked.key query.picked.columns (where_of query.filter) (entries (table_of x).partitions)) ≡ answer_rows (state_of l) rows)
+          → (folder : Folder) × (v.files ≡ Some folder) × (x : TableParts) × IsTableOf folder q types files (map (λ (m : MemtableView). m.partitions) maps) x × (rows_lines (limited query.limit (rows_picked query.picked.key query.picked.columns (where_of query.filter) (entries (table_of x).partitions))) ≡ answer_rows (state_of l) rows)
           × (selection_reads v.files l rows ≡ rows_reads v.files q x (key_asked query.filter))
       is_printed q is_q =
           let told = told_files v serves.told in (

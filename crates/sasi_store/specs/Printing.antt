@@ -1,13 +1,13 @@
 -- The rows of a table that a SELECT prints.
-use Rattle.std.specs.Prelude.{◌≡◌, ◌++◌, ℕ, List, [], ◌∷◌, length, slice_get, Option, None, Some}
-use Rattle.std.specs.List.{AllByRecursion, flat_map}
+use Rattle.std.specs.Prelude.{◌≡◌, List, [], ◌∷◌, slice_get, Option, None, Some}
+use Rattle.std.specs.List.{AllByRecursion}
 use Rattle.sasi_types.specs.declared.column.ColumnType.{ColumnType}
 use Rattle.sasi_types.specs.declared.decorated_key.DecoratedKey.{DecoratedKey}
 use Rattle.sasi_types.specs.declared.value.Value.{Value}
 use Rattle.sasi_cells.specs.Rows.{IsStored}
 use Rattle.sasi_host.specs.Names.{Folder}
-use Rattle.sasi_model.specs.Abbreviations.{row_line}
 use Rattle.sasi_model.specs.Cells.{Partition}
+use Rattle.sasi_model.specs.Filters.{limited}
 use Rattle.sasi_memtable.specs.MemtableView.{MemtableView}
 use Rattle.sasi_machine.specs.TableRows.{AreStored, rows_picked}
 use Rattle.sasi_machine.specs.Where.{HasTexts, where_of}
@@ -30,13 +30,13 @@ pub record ScansTable (seen : Option Folder) (kind : ColumnType) (scan : ScanVie
   pub key : slice_get types 0 ≡ Some kind
   pub stored : AllByRecursion (λ (m : MemtableView). AreStored kind m.partitions) maps
 
+-- the rows of these partitions that the WHERE asks for
 abbrev pub rows_of : RowQuery → Entries → List (List (Option Value))
 rows_of query entries = rows_picked query.picked.key query.picked.columns (where_of query.filter) entries
 
--- the rows of these partitions that are asked for were printed, so many
-pub record ArePrinted (query : RowQuery) (entries : Entries) (reply_old reply_new : List ℕ) (rows : ℕ) : Type 0 where
-  pub reply_is : reply_new ≡ reply_old ++ flat_map row_line (rows_of query entries)
-  pub rows_are : rows ≡ length (rows_of query entries)
+-- of these the first, up to the LIMIT
+abbrev pub asked_rows : RowQuery → Entries → List (List (Option Value))
+asked_rows query entries = limited query.limit (rows_of query entries)
 
 -- the entry of the key, if something was found of it
 abbrev pub entry_found : DecoratedKey → Option Partition → Entries

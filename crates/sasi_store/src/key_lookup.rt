@@ -7,10 +7,11 @@ ghost use Rattle.sasi_host.specs.Damages.{OnDamage};
 ghost use Rattle.sasi_host.specs.Disk.{Changes, Same};
 ghost use Rattle.sasi_host.specs.Names.{Folder, data_name};
 ghost use Rattle.sasi_host.specs.View.{IsThere};
+ghost use Rattle.sasi_model.specs.Filters.{limited};
 ghost use Rattle.sasi_model.specs.Lines.{rows_lines};
 ghost use Rattle.sasi_model.specs.State.{decorated};
 ghost use Rattle.sasi_memtable.specs.MemtableView.{AreDecorated, MemtableView};
-ghost use Rattle.sasi_machine.specs.TableRows.{AreStored, rows_picked};
+ghost use Rattle.sasi_machine.specs.TableRows.{ArePrinted, AreStored, rows_picked};
 ghost use Rattle.sasi_machine.specs.Where.{key_asked, where_of};
 ghost use Rattle.sasi_manifest.specs.declared.files.ListedFile.{ListedFile as AListedFile};
 ghost use Rattle.sasi_layout.specs.Layout.{TableParts, table_of};
@@ -18,7 +19,7 @@ ghost use Rattle.sasi_merge.specs.Merging.{with_token};
 ghost use Rattle.sasi_scan.specs.Finding.{key_reads};
 ghost use Rattle.sasi_scan.specs.Parts.{ShowsListed};
 ghost use Rattle.sasi_scan.specs.Scanning.{ScanCauses};
-ghost use Rattle.sasi_store.specs.Printing.{ArePrinted, IsPrintable, entry_found};
+ghost use Rattle.sasi_store.specs.Printing.{IsPrintable, asked_rows, entry_found};
 ghost use Rattle.sasi_store.specs.Selects.{KnowsWhere};
 ghost use Rattle.sasi_store.specs.Tables.{IsTableOf, file_contents};
 
@@ -55,7 +56,7 @@ pub fn print_key<H: Host>(
     requires decorated { AllByRecursion (λ (m : MemtableView). AreDecorated partitioner m.partitions) maps.now }
     // They are the rows of the whole table that are asked for.
     ensures ok { OnOk result ((folder : Folder) (t : TableParts) → (H.view host.old).files ≡ Some folder → IsTableOf folder partitioner types.now files.now (map_list (λ (m : MemtableView). m.partitions) maps.now) t
-        → reply.new ≡ reply.old ++ rows_lines (rows_picked query.now.picked.key query.now.picked.columns (where_of query.now.filter) (map_.entries (table_of t).partitions))) }
+        → reply.new ≡ reply.old ++ rows_lines (limited query.now.limit (rows_picked query.now.picked.key query.now.picked.columns (where_of query.now.filter) (map_.entries (table_of t).partitions)))) }
     // It reads what a look-up of the key takes in each data file, also where it fails.
     ensures reads { (folder : Folder) (t : TableParts) → (H.view host.old).files ≡ Some folder → IsTableOf folder partitioner types.now files.now (map_list (λ (m : MemtableView). m.partitions) maps.now) t
         → (H.view host.new).reads ≤ (H.view host.old).reads + key_reads partitioner key.now (file_contents t) }
@@ -82,9 +83,12 @@ fn print_found(
 ) -> Result<u64, AllocError>
     requires stored { IfSome found.now (IsPrintable query.now.picked.key key.now) }
     requires known { KnowsWhere (map_list (λ b. kind (b.vtable, b.value)) kit.old.objects.items) query.now.filter }
-    ensures printed { IfOk result (λ rows. (token : ℕ) → ArePrinted query.now (entry_found (with_token token key.now) found.now) reply.old reply.new rows) }
+    ensures printed { IfOk result (λ rows. (token : ℕ) → ArePrinted (asked_rows query.now (entry_found (with_token token key.now) found.now)) reply.old reply.new rows) }
     ensures kinds { map_list (λ b. kind (b.vtable, b.value)) kit.new.objects.items ≡ map_list (λ b. kind (b.vtable, b.value)) kit.old.objects.items }
 {
+    if query.is_full(0) {
+        return Ok(0);
+    }
     match found {
         Some(part) => print_row(alloc, kit, key, part, query, reply),
         None => Ok(0),

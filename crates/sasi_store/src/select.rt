@@ -15,6 +15,7 @@ ghost use Rattle.sasi_machine.specs.TableRows.{AreStored, rows_picked};
 ghost use Rattle.sasi_machine.specs.Where.{key_asked, where_of};
 ghost use Rattle.sasi_manifest.specs.declared.files.ListedFile.{ListedFile as AListedFile};
 ghost use Rattle.sasi_memtable.specs.MemtableView.{AreDecorated, MemtableView};
+ghost use Rattle.sasi_model.specs.Filters.{limited};
 ghost use Rattle.sasi_model.specs.Lines.{rows_lines};
 ghost use Rattle.sasi_store.specs.Faults.{OnMissing, OnSpent, OnStepDamage, StepCauses};
 ghost use Rattle.sasi_scan.specs.Parts.{ShowsListed};
@@ -99,7 +100,7 @@ fn print_rows<H: Host>(
     requires stored { AllByRecursion (λ (m : MemtableView). AreStored query.now.picked.key m.partitions) maps.now }
     requires decorated { AllByRecursion (λ (m : MemtableView). AreDecorated partitioner m.partitions) maps.now }
     ensures ok { OnOk result ((folder : Folder) (t : TableParts) → (H.view host.old).files ≡ Some folder → IsTableOf folder partitioner types.now files.now (map (λ (m : MemtableView). m.partitions) maps.now) t
-        → reply.new ≡ reply.old ++ rows_lines (rows_picked query.now.picked.key query.now.picked.columns (where_of query.now.filter) (map_.entries (table_of t).partitions))) }
+        → reply.new ≡ reply.old ++ rows_lines (limited query.now.limit (rows_picked query.now.picked.key query.now.picked.columns (where_of query.now.filter) (map_.entries (table_of t).partitions)))) }
     ensures reads { (folder : Folder) (t : TableParts) → (H.view host.old).files ≡ Some folder → IsTableOf folder partitioner types.now files.now (map (λ (m : MemtableView). m.partitions) maps.now) t
         → (H.view host.new).reads ≤ (H.view host.old).reads + rows_reads (H.view host.old).files partitioner t (key_asked query.now.filter) }
     ensures damaged { IfErr result (OnDamage (ShowsListed (H.view host.old).files files.now types.now)) }

@@ -8,4 +8,4 @@ unreachable-requires g c =
     c.requires.known fault.field-0-0 (subst (OnMissing (WhereLacks _ c.args.query.now.filter)) fault.field-0-is fault.ensures.missing)
 
 pub returns-in-Ok-clause-printed : goal.returns-in-Ok-clause-printed
-returns-in-Ok-clause-printed g c token = record { reply_is = c.in-Ok.ensures.reply token; rows_are = c.in-Ok.ensures.rows token }
+returns-in-Ok-clause-printed g c token = record { reply_is = c.in-Ok.ensures.reply token; count_is = c.in-Ok.ensures.rows token }

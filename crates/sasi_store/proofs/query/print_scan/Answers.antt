@@ -12,7 +12,7 @@ use Rattle.sasi_scan.proofs.Costs.{causes_behind, causes_memory, causes_of_fault
 use Rattle.sasi_scan.proofs.Pages.{stays_may}
 use Rattle.sasi_store.specs.Selects.{KnowsWhere}
 use Rattle.sasi_store.proofs.Printables.{parts_printable}
-use Rattle.sasi_store.proofs.Printing.{printing_begins, printing_ends, printing_more}
+use Rattle.sasi_store.proofs.Printing.{printing_begins, printing_ends, printing_full, printing_more}
 use Rattle.sasi_store.proofs.query.print_scan.Goals as goal
 
 pub loop-turn-init : goal.loop-turn-init
@@ -32,6 +32,22 @@ loop-turn-init g c =
 
 pub next-requires : goal.next-requires
 next-requires g c = c.loop-turn.invariant.can
+
+-- ---- as many as LIMIT allows
+
+pub returns-then-is_full-clause-ok : goal.returns-then-is_full-clause-ok
+returns-then-is_full-clause-ok g c p left scanning =
+    let v = g.H.Host.view c.args.host.now in
+    printing_full v.files p c.args.query.now left c.loop-turn.scan c.args.reply.now c.loop-turn.reply c.loop-turn.rows (c.loop-turn.invariant.printing p left scanning) (sym c.is_full.ensures ∙ c.if-is_full.true)
+
+pub returns-then-is_full-clause-reads : goal.returns-then-is_full-clause-reads
+returns-then-is_full-clause-reads g c p most may = let so_far = c.loop-turn.invariant.reads p most may in omega (arith, so_far.reads)
+
+pub returns-then-is_full-clause-changes : goal.returns-then-is_full-clause-changes
+returns-then-is_full-clause-changes g c = c.loop-turn.invariant.changes
+
+pub returns-then-is_full-clause-causes : goal.returns-then-is_full-clause-causes
+returns-then-is_full-clause-causes g c = causes_ok _ _ _ c.loop-turn.invariant.disk c.loop-turn.invariant.out
 
 -- ---- a scan that fails
 
@@ -151,10 +167,10 @@ loop-turn-preserved g c =
       printing = λ p left scanning.
           let printing = on.printing p left scanning in
           let gives = c.in_ok-next.ensures.next p printing.rest (subst (λ (o : Option Folder). IsScanning o p c.loop-turn.scan printing.rest) (sym same) printing.scanning) in
-          printing_more v.files p c.args.query.now left c.loop-turn.scan c.args.reply.now c.loop-turn.reply c.loop-turn.rows printing c.next.new.self c.in-Some.key c.in-Some.part c.print_row.new.reply c.in_ok-printed-in-Some.printed
+          printing_more v.files p c.args.query.now left c.loop-turn.scan c.args.reply.now c.loop-turn.reply c.loop-turn.rows printing c.next.new.self c.in-Some.key c.in-Some.part c.print_row.new.reply c.in_ok-printed-in-Some.printed (sym c.is_full.ensures ∙ c.if-is_full.false)
           (subst (λ (o : Option Folder). GivesFirst o p printing.rest c.next.new.self (Some (c.in-Some.key, c.in-Some.part))) same
           (subst (λ (o : Option (List ℕ × Partition)). GivesFirst w.files p printing.rest c.next.new.self o) c.in-Some.is gives))
-          c.in_ok-printed-in-Some.ensures.printed;
+          c.in_ok-printed-in-Some.ensures.printed one;
       is_of = λ files types maps of.
           subst (λ (o : Option Folder). IsScanOf o files types maps c.next.new.self) same
           (c.in_ok-next.ensures.is_of files types maps (subst (λ (o : Option Folder). IsScanOf o files types maps c.loop-turn.scan) (sym same) (on.is_of files types maps of)));

@@ -10,7 +10,10 @@ use Rattle.sasi_scan.specs.Parts.{ShowsListed, merged_parts}
 use Rattle.sasi_scan.specs.Scanning.{IsScanOf, IsScanning, MayRead}
 use Rattle.sasi_scan.proofs.Costs.{causes_behind, causes_memory, causes_of_fault, causes_ok, reads_same}
 use Rattle.sasi_store.specs.Tables.{file_contents}
-use Rattle.sasi_store.proofs.Printing.{answer_is}
+use Rattle.sasi_machine.proofs.Printed.{answer_is}
+use Rattle.sasi_model.specs.Abbreviations.{Partitions}
+use Rattle.sasi_model.specs.Lines.{rows_lines}
+use Rattle.sasi_store.specs.Printing.{asked_rows}
 use Rattle.sasi_store.proofs.Tables.{false_on, no_false_table, table_contents, table_merged}
 use Rattle.sasi_store.proofs.query.print_table.Goals as goal
 
@@ -116,10 +119,10 @@ returns-clause-ok g c folder partitioner t told is =
     let contents = file_contents t in
     let left = map_.entries (merged_parts partitioner contents c.args.maps.now) in
     let have = table_contents v.files folder partitioner c.args.types.now c.args.files.now c.args.maps.now t told is in
-    answer_is c.args.query.now left (map_.entries (table_of t).partitions) c.args.reply.now c.print_scan.new.reply c.count.new.self c.in_ok-rows.rows
-    (ap map_.entries (table_merged v.files folder partitioner c.args.types.now c.args.files.now c.args.maps.now t told is))
+    answer_is (asked_rows c.args.query.now left) c.args.reply.now c.print_scan.new.reply c.count.new.self c.in_ok-rows.rows
     (c.in_ok-rows.ensures.ok partitioner left (subst (λ (o : Option Folder). IsScanning o partitioner c.in_ok-scan.scan left) (sym (reads_same v (view c.open.new.host) c.open.ensures.changes)) (c.in_ok-scan.ensures.opened partitioner contents have)))
     c.in_ok-count.ensures.ok
+    ∙ ap (λ (m : Partitions). c.args.reply.now ++ rows_lines (asked_rows c.args.query.now (map_.entries m))) (table_merged v.files folder partitioner c.args.types.now c.args.files.now c.args.maps.now t told is)
 
 pub returns-clause-reads : goal.returns-clause-reads
 returns-clause-reads g c folder partitioner t told is =
