@@ -70,6 +70,36 @@ fn index_in_memory_says_how_a_where_compares(rt: HostRuntime) {
     check_where(&rt, &mut machine, &mut reply);
 }
 
+/// Three rows, of which a LIMIT leaves fewer, as many or more, also behind a WHERE.
+fn check_limit(rt: &impl Abort, machine: &mut Machine, reply: &mut Reply) {
+    let create = b"CREATE TABLE t (k text PRIMARY KEY, n int);";
+    check_step(rt, machine, reply, create, Outcome::Done, "ok\n");
+    for insert in [
+        b"INSERT INTO t (k, n) VALUES ('k1', 1);".as_slice(),
+        b"INSERT INTO t (k, n) VALUES ('k2', 2);".as_slice(),
+        b"INSERT INTO t (k, n) VALUES ('k3', 3);".as_slice(),
+    ] {
+        check_step(rt, machine, reply, insert, Outcome::Done, "ok\n");
+    }
+    let fewer = b"SELECT k FROM t LIMIT 2;";
+    let two = "'k1'\n'k2'\n(2 rows)\n";
+    check_step(rt, machine, reply, fewer, Outcome::Done, two);
+    let more = b"SELECT k FROM t WHERE n > 1 LIMIT 3 ALLOW FILTERING;";
+    let others = "'k2'\n'k3'\n(2 rows)\n";
+    check_step(rt, machine, reply, more, Outcome::Done, others);
+    let none = b"SELECT k FROM t LIMIT 0;";
+    let outcome = Outcome::Refused(9);
+    let range = "error 9 NumberRange LIMIT\n";
+    check_step(rt, machine, reply, none, outcome, range);
+}
+
+#[test]
+fn rows_in_memory_end_at_the_limit(rt: HostRuntime) {
+    let mut machine = Machine::new(rt.alloc(), Partitioner::Lead8);
+    let mut reply = Reply::new(rt.alloc());
+    check_limit(&rt, &mut machine, &mut reply);
+}
+
 #[test]
 fn piece_that_is_not_utf8_is_refused_at_its_offset(rt: HostRuntime) {
     let mut machine = Machine::new(rt.alloc(), Partitioner::Lead8);

@@ -220,3 +220,15 @@ fn key_that_is_asked_for_is_told(rt: HostRuntime) {
     let query = query_of(&rt, alloc, &schema, &mut kit, by_text);
     check_key(&rt, &query.filter, None);
 }
+
+#[test]
+fn query_is_full_at_its_limit(rt: HostRuntime) {
+    let alloc = rt.alloc();
+    let mut kit = kit_of(&rt, alloc);
+    let schema = schema_of(&rt, alloc);
+    let limited = "SELECT * FROM t LIMIT 2;";
+    let query = query_of(&rt, alloc, &schema, &mut kit, limited);
+    assert!(rt; !query.is_full(1) && query.is_full(2));
+    let query = query_of(&rt, alloc, &schema, &mut kit, "SELECT * FROM t;");
+    assert!(rt; !query.is_full(u64::MAX));
+}
