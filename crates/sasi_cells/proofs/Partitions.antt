@@ -1,5 +1,5 @@
 -- Ordered entries as partitions.
-use Rattle.std.proofs.Common.{◌≡◌, ℕ, ◌<◌, nat_le, ◌&&◌, Bool, true, false, cond, if◌then◌else◌, T, List, [], ◌∷◌, length, get_or, set, Option, None, Some, Result, Ok, Err, OnOk, OnErr, max, not, refl, sym, ap, ◌∙◌, subst, arith}
+use Rattle.std.proofs.Common.{◌≡◌, ◌==◌, ℕ, IsTrue, ◌<◌, nat_le, ◌&&◌, Bool, true, false, cond, if◌then◌else◌, T, List, [], ◌∷◌, length, get_or, set, Option, None, Some, Result, Ok, Err, OnOk, OnErr, max, not, refl, sym, ap, ◌∙◌, subst, arith}
 use Rattle.std.specs.Prelude.{map as map_list}
 use Rattle.std.specs.declared.cmp.Ordering.TheVariants.{Less, Equal, Greater}
 use Rattle.std.specs.Ordering.{nat_cmp, eq_by_cmp}
@@ -10,7 +10,7 @@ use Rattle.std.specs.FinMap as map
 use Rattle.std.specs.FinMap.Entries.{by_order}
 use Rattle.std.proofs.lemmas.Bool.Decides.{nat_tests}
 use Rattle.sasi_types.specs.declared.cell.Cell.{Cell}
-use Rattle.sasi_model.specs.Cells.{Cells, Partition, unshadowed, IsNormal, merge, max_timestamp_of, is_live}
+use Rattle.sasi_model.specs.Cells.{Cells, Partition, empty_partition, unshadowed, IsNormal, merge, max_timestamp_of, is_live}
 use Rattle.sasi_model.specs.Abbreviations.{max_timestamp_in, any_live}
 use Rattle.sasi_cells.specs.Entries.{Entry, is_above, IsOrdered, partition_of, merged_sorted, unshadowed_entries}
 use Rattle.sasi_cells.specs.Changes.{deletion, with_column}
@@ -43,6 +43,16 @@ none_is_deletion time es e = ap (partition_of time) e ∙ ap (λ (cells : Cells)
 
 pub none_is_ordered : (time : ℕ) (es : List Entry) → es ≡ [] → IsOrdered time es
 none_is_ordered time es e = record { rising = ap (map.is_sorted nat_cmp) e; above = ap (list_all (is_above time)) e }
+
+pub nothing_written : (deleted : ℕ) (es : List Entry) → deleted ≡ 0 → es ≡ [] → partition_of deleted es ≡ empty_partition
+nothing_written deleted es none empty = none_is_deletion deleted es empty ∙ ap deletion none
+
+zero_of : (n : ℕ) → IsTrue (n == 0) → n ≡ 0
+zero_of n is = grind (arith, nat_tests)
+
+pub no_entries : (es : List Entry) (n : ℕ) → length es ≡ n → IsTrue (n == 0) → es ≡ []
+no_entries [] n is none = refl
+no_entries (e ∷ es) n is none = absurd (omega (arith, is, zero_of n none))
 
 -- ---- entries
 

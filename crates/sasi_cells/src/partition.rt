@@ -1,5 +1,5 @@
 // The partition of one key.
-ghost use Rattle.std.specs.Prelude.{◌≡◌, ℕ, ◌<◌, true, OnOk, OnErr, IfOk};
+ghost use Rattle.std.specs.Prelude.{◌≡◌, ℕ, ◌<◌, true, IsTrue, OnOk, OnErr, IfOk};
 ghost use Rattle.std.specs.Option.{option_copied, option_map};
 ghost use Rattle.std.specs.Ordering.{nat_cmp};
 ghost use Rattle.std.specs.FinMap as map;
@@ -124,8 +124,29 @@ impl Partition {
         self.merge_from(copy)
     }
 
-    /// Merges another partition of the key by moving its cells. Out of memory leaves this partition unchanged.
+    /// Merges another partition of the key by moving its cells. Out of memory leaves this partition unchanged. Onto one to which nothing was
+    /// written the other moves as it is.
     pub fn merge_from(&mut self, other: Partition) -> Result<(), AllocError>
+        ensures ok { OnOk result (self.new ≡ merge self.old other) }
+        ensures err { OnErr result (self.new ≡ self.old) }
+    {
+        let _ = &other.deleted;
+        if self.is_unwritten() {
+            *self = other;
+            return Ok(());
+        }
+        self.merge_cells(other)
+    }
+
+    // Whether nothing was written to it.
+    fn is_unwritten(&self) -> bool
+        ensures { IsTrue result → self.now ≡ empty_partition }
+    {
+        self.deleted == 0 && self.cells.is_empty()
+    }
+
+    // Merges the cells of another partition, of each column the newest.
+    fn merge_cells(&mut self, other: Partition) -> Result<(), AllocError>
         ensures ok { OnOk result (self.new ≡ merge self.old other) }
         ensures err { OnErr result (self.new ≡ self.old) }
     {

@@ -1,14 +1,10 @@
-use Rattle.std.proofs.Common.{ap, ◌∙◌}
-use Rattle.sasi_cells.proofs.Partitions.{merged_is_ordered, merged_is_merge}
+use Rattle.std.proofs.Common.{ap, refl, subst, sym, ◌∙◌}
+use Rattle.sasi_model.specs.Cells.{IsNormal, Partition as Written, merge}
+use Rattle.sasi_cells.proofs.Laws.Maps.{nothing_behind, nothing_first}
+use Rattle.sasi_cells.proofs.Partitions.{ordered_is_normal}
 use Rattle.sasi_cells.proofs.partition.Partition.merge_from.Goals as goal
 
-pub invariant_of-self : goal.invariant_of-self
-invariant_of-self c =
-    merged_is_ordered _ c.self.inside.deleted c.other.inside.deleted c.self.inside.cells.items c.other.inside.cells.items c.replace-cells.result.items _ c.self.invariant c.other.invariant
-    c.max-self-inside.ensures (ap (λ v. v.items) c.replace-cells.ensures.value) (c.shrink_to_fit.ensures.items ∙ c.merge_sorted.ensures)
-
-pub returns-clause-ok : goal.returns-clause-ok
-returns-clause-ok c =
-    merged_is_merge _ c.self.inside.deleted c.other.inside.deleted c.self.inside.cells.items c.other.inside.cells.items c.replace-cells.result.items
-    _ c.args.self.now c.args.other c.self.invariant c.other.invariant
-    c.max-self-inside.ensures (ap (λ v. v.items) c.replace-cells.ensures.value) (c.shrink_to_fit.ensures.items ∙ c.merge_sorted.ensures) c.self.view_is c.other.view_is
+pub returns-then-is_unwritten-clause-ok : goal.returns-then-is_unwritten-clause-ok
+returns-then-is_unwritten-clause-ok c =
+    let normal : IsNormal c.args.other = subst IsNormal c.other.view_is (ordered_is_normal _ _ c.other.invariant) in
+    sym (ap (λ (p : Written). merge p c.args.other) (c.if-is_unwritten.ensures refl) ∙ nothing_first c.args.other ∙ nothing_behind c.args.other normal)
