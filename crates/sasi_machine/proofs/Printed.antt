@@ -1,5 +1,5 @@
 -- Rows that are printed one after another.
-use Rattle.std.proofs.Common.{◌≡◌, ℕ, ◌+◌, ◌≤◌, subst, Bool, true, false, if◌then◌else◌, List, [], ◌∷◌, ◌++◌, length, map, Option, None, Some, refl, sym, ap, ◌∙◌, arith, append_assoc, length-append}
+use Rattle.std.proofs.Common.{◌≡◌, ℕ, ◌+◌, ◌≤◌, ◌<◌, nat_le, subst, Bool, true, false, if◌then◌else◌, List, [], ◌∷◌, ◌++◌, length, map, Option, None, Some, refl, sym, ap, ◌∙◌, arith, append_assoc, length-append}
 use Rattle.std.specs.List.{flat_map}
 use Rattle.std.proofs.lemmas.Grind.{flat_map-append}
 use Rattle.std.proofs.lemmas.Bool.Decides.{nat_tests}
@@ -38,15 +38,20 @@ printing_begins limit all reply = record { done = []; parts = refl; printed = re
     none_allowed None = tt
     none_allowed (Some n) = omega arith
 
+within : (a b : ℕ) → nat_le a b ≡ true → a ≤ b
+within a b is = grind (arith, nat_tests)
+
+below : (a b : ℕ) → nat_le a b ≡ false → b < a
+below a b above = grind (arith, nat_tests)
+
 one_allowed : (limit : Option ℕ) (count more : ℕ) → is_full limit count ≡ false → more ≤ 1 → Allows limit (count + more)
 one_allowed None count more room few = tt
-one_allowed (Some n) count more room few = omega (arith, nat_tests, room, few)
+one_allowed (Some n) count more room few = omega (arith, below n count room, few)
 
 first_done : (limit : Option ℕ) (done left : List (List (Option Value))) → Allows limit (length done) → is_full limit (length done) ≡ true → limited limit (done ++ left) ≡ done
 first_done None done left allows full = cc
 first_done (Some n) done left allows full =
-    let reached : n ≤ length done = omega (arith, nat_tests, full) in
-    take-append-le n done left reached ∙ take_all n done allows
+    take-append-le n done left (within n (length done) full) ∙ take_all n done allows
 
 all_done : (limit : Option ℕ) (done : List (List (Option Value))) → Allows limit (length done) → limited limit done ≡ done
 all_done None done allows = refl

@@ -1,4 +1,4 @@
-use Rattle.std.proofs.Common.{◌≡◌, ◌+◌, ◌<◌, ◌^◌, ◌∷◌, ◌++◌, List, Option, length, arith, length-append, refl, sym, ap, subst, ◌∙◌}
+use Rattle.std.proofs.Common.{◌≡◌, ◌+◌, ◌<◌, ◌^◌, [], ◌∷◌, List, Option, length, arith, length-append, refl, sym, ap, subst, ◌∙◌}
 use Rattle.sasi_types.specs.declared.decorated_key.DecoratedKey.{DecoratedKey}
 use Rattle.sasi_types.specs.declared.value.Value.{Value}
 use Rattle.sasi_model.specs.Cells.{Partition}
@@ -68,4 +68,4 @@ returns-clause-printed g c =
     let q = c.args.query.now in
     let rows : List (DecoratedKey × Partition) → List (List (Option Value)) = λ es. rows_picked q.picked.key q.picked.columns (where_of q.filter) es in
     printed_all q.limit (rows (fin.entries c.args.memtable.now.partitions)) (rows c.loop-decorated_key.decorated_key-iterator) c.args.reply.now c.loop-decorated_key.reply c.loop-decorated_key.rows c.loop-decorated_key.invariant.printing
-    refl
+    (ap rows c.in-None.ensures.steps.0)
