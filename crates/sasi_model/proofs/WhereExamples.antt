@@ -389,14 +389,14 @@ limit_of_rows = refl
 without_limit : row_limit None ≡ None
 without_limit = refl
 
-fewer_rows : limited (Some 2) (1 ∷ 2 ∷ 3 ∷ []) ≡ 1 ∷ 2 ∷ []
+fewer_rows : limited {A = ℕ} (Some 2) (1 ∷ 2 ∷ 3 ∷ []) ≡ 1 ∷ 2 ∷ []
 fewer_rows = refl
 
-as_many_rows : limited (Some 3) (1 ∷ 2 ∷ 3 ∷ []) ≡ 1 ∷ 2 ∷ 3 ∷ []
+as_many_rows : limited {A = ℕ} (Some 3) (1 ∷ 2 ∷ 3 ∷ []) ≡ 1 ∷ 2 ∷ 3 ∷ []
 as_many_rows = refl
 
-more_rows : limited (Some 4) (1 ∷ 2 ∷ 3 ∷ []) ≡ 1 ∷ 2 ∷ 3 ∷ []
+more_rows : limited {A = ℕ} (Some 4) (1 ∷ 2 ∷ 3 ∷ []) ≡ 1 ∷ 2 ∷ 3 ∷ []
 more_rows = refl
 
-all_rows : limited None (1 ∷ 2 ∷ 3 ∷ []) ≡ 1 ∷ 2 ∷ 3 ∷ []
+all_rows : limited {A = ℕ} None (1 ∷ 2 ∷ 3 ∷ []) ≡ 1 ∷ 2 ∷ 3 ∷ []
 all_rows = refl
