@@ -1,5 +1,5 @@
 -- The least key of heads: no head has a lower one, and some head has it.
-use Rattle.std.proofs.Common.{◌≡◌, ◌≢◌, ◌⊎◌, ℕ, Bool, true, false, cond, List, [], ◌∷◌, Option, None, Some, IfSome, is_some, unwrap_or, refl, sym, ap, subst, ◌∙◌, inl, inr, ⊎_elim}
+use Rattle.std.proofs.Common.{◌≡◌, ◌≢◌, ◌⊎◌, ℕ, Bool, true, false, cond, List, [], ◌∷◌, ◌++◌, Option, None, Some, IfSome, is_some, unwrap_or, refl, sym, ap, subst, ◌∙◌, inl, inr, ⊎_elim}
 use Rattle.std.specs.List.{AllByRecursion}
 use Rattle.std.specs.declared.cmp.Ordering.{Ordering}
 use Rattle.std.specs.declared.cmp.Ordering.TheVariants.{Less, Equal, Greater}
@@ -12,7 +12,7 @@ use Rattle.sasi_model.specs.Cells.{IsNormal, Partition, empty_partition, merge}
 use Rattle.sasi_cells.specs.Maps.{joined}
 use Rattle.sasi_cells.proofs.Laws.Decorated.{decorated_same, equal_keys}
 use Rattle.sasi_cells.proofs.Laws.Maps.{nothing_behind, nothing_first}
-use Rattle.sasi_merge.specs.Merging.{Head, IsFrom, merged_heads, part_at, with_token}
+use Rattle.sasi_merge.specs.Merging.{GivesLeast, Head, IsFrom, IsLeastKey, head_with, merged_heads, merged_part, merged_with, part_at, with_token}
 use Rattle.sasi_merge.specs.Least.{least_from, lesser}
 
 -- ---- the order
@@ -144,6 +144,32 @@ some_has key least base (h ∷ hs) is = ⊎_elim (λ first. by h first) (λ behi
 -- so there is a merge of its partitions
 pub has_some : (key : DecoratedKey) (hs : List Head) → least_from None hs ≡ Some key → merged_heads key None hs ≡ None → ⊥
 has_some key hs is none = ⊎_elim (λ (first : None ≡ Some key). absurd (let no = first in cc)) (λ some. absurd (let no : false ≡ true = ap is_some (sym none) ∙ some in cc)) (some_has key None None hs is)
+
+-- ---- the merge of one key's partitions
+
+-- what the search finds is the least key
+pub is_least_key : (hs : List Head) (key : DecoratedKey) → least_from None hs ≡ Some key → IsLeastKey hs (Some key)
+is_least_key hs key is = (⊎_elim (λ (first : None ≡ Some key). absurd (let no = first in cc)) (λ some. some) (some_has key None None hs is), (least_is key None hs is).heads)
+
+merged_push : (key : DecoratedKey) (base : Option Partition) (hs : List Head) (h : Head) → merged_heads key base (hs ++ h ∷ []) ≡ joined (merged_heads key base hs) (part_at key h)
+merged_push key base [] h = refl
+merged_push key base (x ∷ hs) h = merged_push key (joined base (part_at key x)) hs h
+
+-- **One more head** is merged where it has the key.
+pub part_push : (key : DecoratedKey) (hs : List Head) (h : Head) → merged_part key (hs ++ h ∷ []) ≡ merged_with (merged_part key hs) (head_with key h)
+part_push key hs h = ap (λ o. unwrap_or o empty_partition) (merged_push key None hs h) ∙ by h
+  where
+    by : (x : Head) → unwrap_or (joined (merged_heads key None hs) (part_at key x)) empty_partition ≡ merged_with (merged_part key hs) (head_with key x)
+    by None = refl
+    by (Some x) = elim (eq_by_cmp decorated_cmp key (with_token x.0 x.1)) as (λ b. unwrap_or (joined (merged_heads key None hs) (cond b (Some x.2) None)) empty_partition ≡ merged_with (merged_part key hs) (cond b (Some x) None)) [ true ↦ refl | false ↦ refl ]
+
+-- **The least key is given with what is merged of all heads.**
+pub gives_least : (hs : List Head) (key : DecoratedKey) (part : Partition) → IsLeastKey hs (Some key) → part ≡ merged_part key hs → GivesLeast hs key.token (Some (key.key, part))
+gives_least hs key part least is = (by (merged_heads key None hs) refl least.0, least.1)
+  where
+    by : (o : Option Partition) → merged_heads key None hs ≡ o → is_some (merged_heads key None hs) ≡ true → merged_heads key None hs ≡ Some part
+    by None e some = absurd (let no : false ≡ true = sym (ap is_some e) ∙ some in cc)
+    by (Some q) e some = e ∙ sym (ap Some (is ∙ ap (λ o. unwrap_or o empty_partition) e))
 
 -- ---- steps of the code
 

@@ -1,12 +1,12 @@
 -- The merge of sorted streams: the least key of the heads of several sources, and the merge of its partitions.
-use Rattle.std.specs.Prelude.{◌≡◌, ◌≢◌, ℕ, Bool, false, if◌then◌else◌, List, [], ◌∷◌, Option, None, Some, refl}
+use Rattle.std.specs.Prelude.{◌≡◌, ◌≢◌, ℕ, Bool, false, if◌then◌else◌, List, [], ◌∷◌, Option, None, Some, is_some, unwrap_or, true, refl}
 use Rattle.std.specs.Coded.{Coded, code_by, coded×, coded_ℕ, coded_option}
 use Rattle.std.specs.List.{AllByRecursion}
 use Rattle.std.specs.Ordering.{eq_by_cmp}
 use Rattle.std.specs.declared.cmp.Ordering.TheVariants.{Greater}
 use Rattle.sasi_types.specs.declared.decorated_key.DecoratedKey.{DecoratedKey}
 use Rattle.sasi_types.specs.DecoratedKey.{decorated_cmp}
-use Rattle.sasi_model.specs.Cells.{Partition}
+use Rattle.sasi_model.specs.Cells.{Partition, empty_partition, merge}
 use Rattle.sasi_model.specs.Codes.{coded_bytes, coded_partition}
 use Rattle.sasi_cells.specs.Maps.{joined}
 
@@ -40,6 +40,26 @@ IsFrom key (Some h) = decorated_cmp key (with_token h.0 h.1) ≢ Greater
 abbrev pub GivesLeast : List Head → ℕ → Option (List ℕ × Partition) → Type 0
 GivesLeast heads token None = AllByRecursion (λ h. h ≡ None) heads
 GivesLeast heads token (Some found) = (merged_heads (with_token token found.0) None heads ≡ Some found.1) × AllByRecursion (IsFrom (with_token token found.0)) heads
+
+-- ---- the merge of one key's partitions, as sources go on
+
+-- **The least key** of the heads, which some head has; none where each source is at its end
+abbrev pub IsLeastKey : List Head → Option DecoratedKey → Type 0
+IsLeastKey heads None = AllByRecursion (λ h. h ≡ None) heads
+IsLeastKey heads (Some key) = (is_some (merged_heads key None heads) ≡ true) × AllByRecursion (IsFrom key) heads
+
+-- what heads have of a key, merged: nothing written where none has it
+abbrev pub merged_part : DecoratedKey → List Head → Partition
+merged_part key heads = unwrap_or (merged_heads key None heads) empty_partition
+
+-- a head, if it has the key
+abbrev pub head_with : DecoratedKey → Head → Head
+head_with key head = if has_key key head then head else None
+
+-- a partition, merged with that of a later head
+abbrev pub merged_with : Partition → Head → Partition
+merged_with part None = part
+merged_with part (Some h) = merge part h.2
 
 -- the code of a head, by which proofs tell heads apart
 abbrev pub coded_head : Coded Head

@@ -1,10 +1,13 @@
 // The heads of sources.
-ghost use Rattle.std.specs.Prelude.{◌≡◌, ◌<◌, ◌++◌, ◌∷◌, [], length, set, Some, IfOk, OnOk, OnErr};
+ghost use Rattle.std.specs.Prelude.{◌≡◌, ◌<◌, ◌++◌, ◌∷◌, [], length, set, slice_get, Some, IfOk, OnOk, OnErr};
+ghost use Rattle.sasi_merge.specs.Merging.{IsLeastKey};
 
+use crate::least::least;
 use sasi_cells::Partition;
 use sasi_types::{DecoratedKey, Key, Token};
 use std::alloc::{AllocError, Global};
 use std::marker::Model;
+use std::mem;
 
 /// The next partition of a source, with its token and its key; None at the source's end.
 pub type Head = Option<(Token, Key, Partition)>;
@@ -44,6 +47,20 @@ impl Heads {
         &self.items
     }
 
+    /// A copy of the least key of the heads, by token and then by the bytes of the key; None exactly where all sources are at their end. The
+    /// caller then moves each source whose head has this key, and merges the heads that these had.
+    pub fn least_key(&self, alloc: Global) -> Result<Option<DecoratedKey>, AllocError>
+        ensures { IfOk result (IsLeastKey self.now) }
+    {
+        match least(&self.items) {
+            None => Ok(None),
+            Some((token, key)) => {
+                let key = copy_key(alloc, key)?;
+                Ok(Some(DecoratedKey { token, key }))
+            }
+        }
+    }
+
     /// Adds the head of one more source, which is newer than the others.
     pub fn push(&mut self, head: Head) -> Result<(), AllocError>
         ensures ok { OnOk result (self.new ≡ self.old ++ head ∷ []) }
@@ -59,6 +76,15 @@ impl Heads {
         ensures { self.new ≡ set self.old position head }
     {
         self.items[position] = head;
+    }
+
+    /// Replaces the head of the source at this position, and gives the one that stood there.
+    pub fn exchange(&mut self, position: usize, head: Head) -> Head
+        requires { position < length self.old }
+        ensures given { slice_get self.old position ≡ Some result }
+        ensures heads { self.new ≡ set self.old position head }
+    {
+        mem::replace(&mut self.items[position], head)
     }
 }
 

@@ -4,7 +4,7 @@ ghost use Rattle.std.specs.Option.{option_map};
 ghost use Rattle.std.specs.Ordering.{is_gt};
 ghost use Rattle.sasi_types.specs.DecoratedKey.{decorated_cmp};
 ghost use Rattle.sasi_cells.specs.Maps.{joined};
-ghost use Rattle.sasi_merge.specs.Merging.{has_key, merged_heads, part_at, with_token};
+ghost use Rattle.sasi_merge.specs.Merging.{has_key, merged_heads, merged_with, part_at, with_token};
 ghost use Rattle.sasi_merge.specs.Least.{least_from, lesser};
 
 use crate::Head;
@@ -57,6 +57,16 @@ pub fn has_key(head: &Head, token: Token, key: &Key) -> bool
         Some((other, bytes, _)) => {
             compare(token, key.bytes(), *other, bytes.bytes()) == Ordering::Equal
         }
+    }
+}
+
+/// Merges the partition of a head onto what older heads have of its key. It moves, so the first one is taken without a copy.
+pub fn add_head(part: &mut Partition, head: Head) -> Result<(), AllocError>
+    ensures { OnOk result (part.new ≡ merged_with part.old head) }
+{
+    match head {
+        None => Ok(()),
+        Some((_, _, later)) => part.merge_from(later),
     }
 }
 

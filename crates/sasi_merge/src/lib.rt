@@ -7,4 +7,5 @@ mod least;
 mod merge;
 
 pub use heads::{Head, Heads, copy_head};
+pub use least::{add_head, has_key};
 pub use merge::Merge;
