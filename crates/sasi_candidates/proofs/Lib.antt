@@ -8,4 +8,5 @@ mod PostingTests
 pub mod FileHits
 pub mod FileIndexes
 pub mod Asking
+pub mod GroupLaws
 mod Examples

@@ -4,3 +4,4 @@ pub mod Checks
 pub mod Reading
 pub mod LayoutParts
 pub mod Searches
+pub mod Groups
