@@ -56,7 +56,7 @@ all_terms P each [] = tt
 all_terms P each (term ∷ terms) = (each term, all_terms P each terms)
 
 -- a term is asked for where the operator holds for it
-abbrev AsHeld : ColumnType → Op → Bytes → Bytes → Type 0
+abbrev pub AsHeld : ColumnType → Op → Bytes → Bytes → Type 0
 AsHeld kind op word term = is_asked kind op word term ≡ holds op term word
 
 text_asked : (op : Op) (word : Bytes) → CanAsk types.Text op → (term : Bytes) → AsHeld types.Text op word term
@@ -77,10 +77,10 @@ value_asked op word None (Uuid bytes) can = tt
 value_asked op word (Some rule) (Uuid bytes) can = tt
 
 -- the value of the cell, if it is live, is of the type
-abbrev IsOfKind : ColumnType → Option Cell → Type 0
+abbrev pub IsOfKind : ColumnType → Option Cell → Type 0
 IsOfKind kind found = (cell : Cell) (value : Value) → found ≡ Some cell → cell.value ≡ Some value → type_of value ≡ kind
 
-cell_asked : (kind : ColumnType) (op : Op) (word : Bytes) (rule : Option Rule) (found : Option Cell) → CanAsk kind op → IsOfKind kind found → AllByRecursion (AsHeld kind op word) (terms_of_cell rule found)
+pub cell_asked : (kind : ColumnType) (op : Op) (word : Bytes) (rule : Option Rule) (found : Option Cell) → CanAsk kind op → IsOfKind kind found → AllByRecursion (AsHeld kind op word) (terms_of_cell rule found)
 cell_asked kind op word rule None can is = tt
 cell_asked kind op word rule (Some cell) can is = by cell.value (λ value has. is cell value refl has)
   where
@@ -101,7 +101,7 @@ module _ (index : Index) (m : Partitions) (built : index.mode ≢ Sparse) where
   any_number Sparse b keys isnt = absurd (isnt refl)
 
   -- where the mode isn't SPARSE, a term is stored that is short
-  short_stored : (term : Bytes) → is_short term ≡ is_stored index m term
+  pub short_stored : (term : Bytes) → is_short term ≡ is_stored index m term
   short_stored term = any_number index.mode (is_short term) (keys_with index m term) built
 
   -- what the postings of a partition say is what the map says of its key
@@ -114,7 +114,7 @@ module _ (index : Index) (m : Partitions) (built : index.mode ≢ Sparse) where
 
 -- ---- the keys of a content
 
-abbrev entries_of : Partitioner → Content → List (DecoratedKey × Partition)
+abbrev pub entries_of : Partitioner → Content → List (DecoratedKey × Partition)
 entries_of p content = map (λ one. (decorated p one.0, one.1)) content
 
 not_tied : (a b : DecoratedKey) → decorated_cmp a b ≡ Less → eq_by_cmp decorated_cmp b a ≡ false
@@ -129,7 +129,7 @@ module _ (p : Partitioner) where
     found_behind one es content below.1 all.1,
   )
 
-  entries_found : (content : Content) → IsStrictlySortedBy decorated_cmp (map (decorated_key p) content) → AllByRecursion (λ one. map_.find decorated_cmp (decorated_key p one) (entries_of p content) ≡ Some one.1) content
+  pub entries_found : (content : Content) → IsStrictlySortedBy decorated_cmp (map (decorated_key p) content) → AllByRecursion (λ one. map_.find decorated_cmp (decorated_key p one) (entries_of p content) ≡ Some one.1) content
   unfolding IsStrictlySortedBy
   entries_found [] rises = tt
   entries_found (one ∷ content) rises = (
@@ -138,10 +138,10 @@ module _ (p : Partitioner) where
   )
 
   -- the map has a partition of the content under its key
-  abbrev HasIn : Partitions → Bytes × Partition → Type 0
+  abbrev pub HasIn : Partitions → Bytes × Partition → Type 0
   HasIn m one = map_.get m (decorated_key p one) ≡ Some one.1
 
-  all_in : (es : List (DecoratedKey × Partition)) (content : Content) → AllByRecursion (λ one. map_.find decorated_cmp (decorated_key p one) es ≡ Some one.1) content → AllByRecursion (HasIn (map_.from_entries es)) content
+  pub all_in : (es : List (DecoratedKey × Partition)) (content : Content) → AllByRecursion (λ one. map_.find decorated_cmp (decorated_key p one) es ≡ Some one.1) content → AllByRecursion (HasIn (map_.from_entries es)) content
   all_in es [] all = tt
   all_in es (one ∷ content) all = (map_.get-from_entries decorated_total es (decorated_key p one) ∙ all.0, all_in es content all.1)
 
@@ -151,7 +151,7 @@ module _ (p : Partitioner) (d : Definition) (index : Index) (m : Partitions) (bu
   abbrev kind : ColumnType
   kind = kind_of d index.column
 
-  of_kind : (key : Bytes) (part : Partition) → IsBodyOf (types_of d) key part → IsOfKind kind (map_.get part.cells index.column)
+  pub of_kind : (key : Bytes) (part : Partition) → IsBodyOf (types_of d) key part → IsOfKind kind (map_.get part.cells index.column)
   of_kind key part body cell value there has =
       sym (ap (λ (o : Option ColumnType). unwrap_or o types.Text) ((each_of (IsListed (types_of d)) part body.columns index.column cell there).typed value has regular))
 

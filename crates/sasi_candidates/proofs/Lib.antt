@@ -9,4 +9,6 @@ pub mod FileHits
 pub mod FileIndexes
 pub mod Asking
 pub mod GroupLaws
+pub mod CostLaws
+pub mod PairCounts
 mod Examples

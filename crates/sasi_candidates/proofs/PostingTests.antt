@@ -28,7 +28,7 @@ abbrev pub found_in : ListKind → Bool → Bool → Bool
 found_in Stored asked passes = asked && passes
 found_in Spill asked passes = passes
 
-abbrev is_long : Bytes → Bool
+abbrev pub is_long : Bytes → Bool
 is_long term = not (is_short term)
 
 module _ (kind : ColumnType) (op : Op) (word : Bytes) (test : Pair → Bool) where

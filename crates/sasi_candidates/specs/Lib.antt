@@ -5,3 +5,4 @@ pub mod Reading
 pub mod LayoutParts
 pub mod Searches
 pub mod Groups
+pub mod Costs
