@@ -1,5 +1,5 @@
 -- The definitions, computed on small tables.
-use Rattle.std.proofs.Common.{◌≡◌, cond, not, is_some, ℕ, Bool, true, false, ◌&&◌, ◌||◌, nat_le, length, map, List, [], ◌∷◌, codes, replicate, Option, Some, None, refl, ap, ◌∙◌}
+use Rattle.std.proofs.Common.{◌≡◌, cond, not, is_some, if◌then◌else◌, ℕ, ◌+◌, Bool, true, false, ◌&&◌, ◌||◌, nat_le, length, map, List, [], ◌∷◌, codes, replicate, Option, Some, None, refl, ap, ◌∙◌}
 use Rattle.std.proofs.lemmas.Cmp.{tied_itself}
 use Rattle.std.specs.Cmp.{nat_cmp_total}
 use Rattle.std.specs.FinMap as map_
@@ -10,21 +10,27 @@ use Rattle.sasi_types.specs.declared.cell.Cell.{Cell}
 use Rattle.sasi_types.specs.declared.decorated_key.DecoratedKey.{DecoratedKey}
 use Rattle.sasi_types.specs.declared.mode.Mode.{Mode}
 use Rattle.sasi_types.specs.declared.mode.Mode.TheVariants as modes
+use Rattle.sasi_types.specs.declared.partitioner.Partitioner.TheVariants.{Lead8}
 use Rattle.sasi_types.specs.declared.rule.Rule.TheVariants.{Whole}
 use Rattle.sasi_types.specs.declared.value.Value.TheVariants.{Text}
 use Rattle.sasi_types.specs.DecoratedKey.{decorated_cmp, decorated_total}
+use Rattle.sasi_types.specs.Token.{token_of}
+use Rattle.sasi_terms.specs.declared.op.Op.{Op}
 use Rattle.sasi_terms.specs.declared.op.Op.TheVariants as ops
 use Rattle.sasi_model.specs.Abbreviations.{Partitions, value_of}
 use Rattle.sasi_model.specs.Cells.{Partition}
-use Rattle.sasi_model.specs.Conditions.{Indexed, OfKey, Plain, Equals, Search, finds}
+use Rattle.sasi_model.specs.Conditions.{Condition, Indexed, OfKey, Plain, Equals, Search, finds}
 use Rattle.sasi_model.specs.Filters.{AllOf, leaves}
 use Rattle.sasi_model.specs.IndexTerms.{any_holds, cell_at, terms_of_cell}
 use Rattle.sasi_model.specs.State.{Index}
 use Rattle.sasi_model.specs.Tokens.{same}
-use Rattle.sasi_postings.specs.Postings.{is_short}
+use Rattle.sasi_postings.specs.Postings.{distinct, is_short}
+use Rattle.sasi_segments.specs.Sorting.{inserted, sort}
 use Rattle.sasi_layout.specs.Layout.{TableParts}
 use Rattle.sasi_candidates.specs.Candidates.{admits, is_candidate}
 use Rattle.sasi_candidates.specs.Checks.{given, looked}
+use Rattle.sasi_candidates.specs.Costs.{files_of, is_scanned, pairs_at, reads_all}
+use Rattle.sasi_candidates.specs.Groups.{Group, by_token, candidates_in, groups, is_looked, key_asked, looks, where_of}
 use Rattle.sasi_candidates.specs.LayoutParts.{columns_of}
 use Rattle.sasi_candidates.specs.Parts.{Memory, Disk, Part, hit, hit_in_index, hit_in_memory, is_rare, is_stored, keys_with}
 
@@ -199,3 +205,162 @@ parts_of_table = record {
 -- a file has the columns of the indexes that its parts name; an index that isn't the table's has none
 columns : columns_of parts_of_table (record { index = 9; part = 2 } ∷ record { index = 7; part = 3 } ∷ []) ≡ 2 ∷ []
 columns = refl
+
+-- ---- keys by their tokens
+
+abbrev keyed : ℕ → List ℕ → DecoratedKey
+keyed token name = record { token = token; key = name }
+
+abbrev one_of : ℕ → List ℕ → DecoratedKey × Partition
+one_of token name = (keyed token name, row 1 (codes "a"))
+
+abbrev two_of_seven : Group
+two_of_seven = record { token = 7; rows = one_of 7 (codes "k1") ∷ one_of 7 (codes "k2") ∷ [] }
+
+abbrev one_of_nine : Group
+one_of_nine = record { token = 9; rows = one_of 9 (codes "k3") ∷ [] }
+
+-- keys that share a token are one group
+shared : by_token (one_of 7 (codes "k1") ∷ one_of 7 (codes "k2") ∷ one_of 9 (codes "k3") ∷ []) ≡ two_of_seven ∷ one_of_nine ∷ []
+shared = refl
+
+-- the first condition on the key tells the token, whatever is asked beside it
+first_key : key_asked (Plain 3 (Equals (codes "x")) ∷ OfKey (codes "k") ∷ OfKey (codes "j") ∷ []) ≡ Some (codes "k")
+first_key = refl
+
+-- also where no part has the key
+no_part : map (λ (g : Group). g.token) (groups Lead8 [] (OfKey (codes "k") ∷ [])) ≡ token_of Lead8 (codes "k") ∷ []
+no_part = refl
+
+-- ---- hits that meet at a token, and at none of its keys
+
+abbrev one_key : DecoratedKey
+one_key = keyed 7 (codes "k1")
+
+abbrev other_key : DecoratedKey
+other_key = keyed 7 (codes "k2")
+
+-- the one key has a text in the first column, and the other one in the second
+abbrev both_rows : List (DecoratedKey × Partition)
+both_rows = (one_key, row 1 (codes "a")) ∷ (other_key, row 2 (codes "b")) ∷ []
+
+abbrev in_memory : Part
+in_memory = record { origin = Memory; holds = map_.from_entries {R = decorated_cmp} both_rows }
+
+abbrev both_asked : List Condition
+both_asked = Indexed first (equals (codes "a")) ∷ Indexed second (equals (codes "b")) ∷ []
+
+abbrev at_column : ℕ → Option Partition → Option Cell
+at_column column o = option_and_then (λ (p : Partition). map_.get p.cells column) o
+
+one_first : hit first (equals (codes "a")) one_key in_memory ≡ true
+one_first =
+    ap (λ (o : Option Partition). finds first.rule (equals (codes "a")) (value_of (at_column 1 o))) (map_.get-from_entries decorated_total both_rows one_key)
+    ∙ ap (λ (o : Option Cell). finds first.rule (equals (codes "a")) (value_of o)) (map_.get-from_entries nat_cmp_total ((1, written (codes "a")) ∷ []) 1)
+
+one_second : hit second (equals (codes "b")) one_key in_memory ≡ false
+one_second =
+    ap (λ (o : Option Partition). finds second.rule (equals (codes "b")) (value_of (at_column 2 o))) (map_.get-from_entries decorated_total both_rows one_key)
+    ∙ ap (λ (o : Option Cell). finds second.rule (equals (codes "b")) (value_of o)) (map_.get-from_entries nat_cmp_total ((1, written (codes "a")) ∷ []) 2)
+
+other_first : hit first (equals (codes "a")) other_key in_memory ≡ false
+other_first =
+    ap (λ (o : Option Partition). finds first.rule (equals (codes "a")) (value_of (at_column 1 o))) (map_.get-from_entries decorated_total both_rows other_key)
+    ∙ ap (λ (o : Option Cell). finds first.rule (equals (codes "a")) (value_of o)) (map_.get-from_entries nat_cmp_total ((2, written (codes "b")) ∷ []) 1)
+
+other_second : hit second (equals (codes "b")) other_key in_memory ≡ true
+other_second =
+    ap (λ (o : Option Partition). finds second.rule (equals (codes "b")) (value_of (at_column 2 o))) (map_.get-from_entries decorated_total both_rows other_key)
+    ∙ ap (λ (o : Option Cell). finds second.rule (equals (codes "b")) (value_of o)) (map_.get-from_entries nat_cmp_total ((2, written (codes "b")) ∷ []) 2)
+
+-- the token is looked at,
+abbrev both_met : (a b c d : Bool) → Bool
+both_met a b c d = ((a || false) || ((b || false) || false)) && (((c || false) || ((d || false) || false)) && true)
+
+met_at_token : is_looked (in_memory ∷ []) (where_of both_asked) (record { token = 7; rows = both_rows }) ≡ true
+met_at_token =
+    ap (λ b. both_met b (hit first (equals (codes "a")) other_key in_memory) (hit second (equals (codes "b")) one_key in_memory) (hit second (equals (codes "b")) other_key in_memory)) one_first
+    ∙ ap (λ b. both_met true (hit first (equals (codes "a")) other_key in_memory) b (hit second (equals (codes "b")) other_key in_memory)) one_second
+    ∙ ap (λ b. both_met true (hit first (equals (codes "a")) other_key in_memory) false b) other_second
+
+-- and has no candidate
+one_is_none : is_candidate (in_memory ∷ []) (where_of both_asked) one_key ≡ false
+one_is_none = ap (λ b. (b || false) && ((hit second (equals (codes "b")) one_key in_memory || false) && true)) one_first ∙ ap (λ b. (b || false) && true) one_second
+
+other_is_none : is_candidate (in_memory ∷ []) (where_of both_asked) other_key ≡ false
+other_is_none = ap (λ b. (b || false) && ((hit second (equals (codes "b")) other_key in_memory || false) && true)) other_first
+
+abbrev rows_if : Bool → Bool → List (DecoratedKey × Partition)
+rows_if a b = cond a ((one_key, row 1 (codes "a")) ∷ cond b ((other_key, row 2 (codes "b")) ∷ []) []) (cond b ((other_key, row 2 (codes "b")) ∷ []) [])
+
+none_in_keys : (candidates_in (in_memory ∷ []) (where_of both_asked) (record { token = 7; rows = both_rows })).rows ≡ []
+none_in_keys = ap (λ b. rows_if b (is_candidate (in_memory ∷ []) (where_of both_asked) other_key)) one_is_none ∙ ap (λ b. rows_if false b) other_is_none
+
+-- ---- how often tokens are looked at
+
+-- a token that costs 10 is paid for each candidate, and once where there is none
+for_each : looks (λ token. 10) (λ e. true) None (two_of_seven ∷ one_of_nine ∷ []) ≡ 30
+for_each = refl
+
+for_none : looks (λ token. 10) (λ e. true) None (record { token = 8; rows = [] } ∷ one_of_nine ∷ []) ≡ 20
+for_none = refl
+
+-- for one row only the first candidate is paid; for two rows both of the first token, and the next one isn't looked at
+for_one_row : looks (λ token. 10) (λ e. true) (Some 1) (two_of_seven ∷ one_of_nine ∷ []) ≡ 10
+for_one_row = refl
+
+for_two_rows : looks (λ token. 10) (λ e. true) (Some 2) (two_of_seven ∷ one_of_nine ∷ []) ≡ 20
+for_two_rows = refl
+
+-- a candidate that fails is paid, too
+for_failed : looks (λ token. 10) (λ e. same e.0.key (codes "k2")) (Some 1) (two_of_seven ∷ one_of_nine ∷ []) ≡ 20
+for_failed = refl
+
+-- where fewer rows pass than LIMIT allows, all tokens are looked at
+for_too_few : looks (λ token. 10) (λ e. same e.0.key (codes "k1")) (Some 2) (two_of_seven ∷ one_of_nine ∷ []) ≡ 30
+for_too_few = refl
+
+-- ---- what files cost
+
+-- the search of a stored term that is as asked goes through its pair, and that of another term doesn't
+abbrev pairs_of : Index → Op → (text word : List ℕ) → Partitions → Option Cell → ℕ
+pairs_of index op text word m o =
+    length (filter (is_scanned op word) (distinct (filter (is_stored index m) (terms_of_cell index.rule o)))) + (if list_any (λ term. not (is_stored index m term)) (terms_of_cell index.rule o) then 1 else 0)
+
+one_pair : pairs_at first ops.Eq (codes "a") (table 1 (codes "a")) key ≡ 1
+unfolding sort inserted
+one_pair = ap (pairs_of first ops.Eq (codes "a") (codes "a") (table 1 (codes "a"))) (current 1 (codes "a"))
+
+no_pair : pairs_at first ops.Eq (codes "b") (table 1 (codes "a")) key ≡ 0
+unfolding sort inserted
+no_pair = ap (pairs_of first ops.Eq (codes "a") (codes "b") (table 1 (codes "a"))) (current 1 (codes "a"))
+
+-- a suffix goes through each stored term
+scanned_pair : pairs_at first ops.Suffix (codes "b") (table 1 (codes "a")) key ≡ 1
+unfolding sort inserted
+scanned_pair = ap (pairs_of first ops.Suffix (codes "a") (codes "b") (table 1 (codes "a"))) (current 1 (codes "a"))
+
+-- every search goes through the spill
+spilled_pair : pairs_at first ops.Eq (codes "b") (table 1 (long 1025)) key ≡ 1
+unfolding sort inserted
+spilled_pair = ap (pairs_of first ops.Eq (long 1025) (codes "b") (table 1 (long 1025))) (current 1 (long 1025))
+
+-- all keys of a file are read where it lacks an index that is asked for, or where no condition narrows
+lacking : reads_all (Indexed first (equals (codes "a")) ∷ []) (Disk (2 ∷ [])) ≡ true
+lacking = refl
+
+indexed : reads_all (Indexed first (equals (codes "a")) ∷ []) (Disk (1 ∷ 2 ∷ [])) ≡ false
+indexed = refl
+
+lacking_one : reads_all (Indexed first (equals (codes "a")) ∷ Indexed second (equals (codes "b")) ∷ []) (Disk (1 ∷ [])) ≡ true
+lacking_one = refl
+
+by_one_key : reads_all (OfKey (codes "k") ∷ Plain 3 (Equals (codes "x")) ∷ []) (Disk []) ≡ false
+by_one_key = refl
+
+unnarrowed : reads_all (Plain 3 (Equals (codes "x")) ∷ []) (Disk (1 ∷ [])) ≡ true
+unnarrowed = refl
+
+-- maps in memory aren't read
+only_files : files_of (record { origin = Memory; holds = table 1 (codes "a") } ∷ on_disk 1 (codes "a") ∷ []) ≡ on_disk 1 (codes "a") ∷ []
+only_files = refl
