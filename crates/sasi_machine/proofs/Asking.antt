@@ -23,7 +23,7 @@ use Rattle.sasi_schema.proofs.Keys.{is_key_by_name}
 use Rattle.sasi_schema.proofs.Positions.{position_named}
 use Rattle.sasi_schema.proofs.RuleLaws.{none_first, none_parts}
 use Rattle.sasi_schema.specs.Numbers.{IsKeyAt}
-use Rattle.sasi_machine.specs.Checks.{after_columns_rules, after_operands_rules}
+use Rattle.sasi_machine.specs.Checks.{after_columns_rules, after_limit_rules, after_operands_rules, count_rules}
 use Rattle.sasi_machine.specs.KeyLiteral.{IsKeyLiteral}
 use Rattle.sasi_machine.specs.Operands.{CanAsk, CanSearch, CanSelect, IsOperand}
 
@@ -77,13 +77,13 @@ module _ (d : Definition) (select : Select) (can : CanSelect d select) where
   pub can_ask : AllByRecursion (CanAsk d) select.relations
   can_ask =
       let operands = none_parts (relation_rules operand_rules d select.relations) _ columns_behind in
-      let limit = none_first (limit_range select.limit) _ operands_behind in
-      let searches = none_parts (relation_rules search_rules d select.relations) _ limit.1 in
+      let limit = none_first (limit_range select.limit) (after_limit_rules d select.filtering select.relations) operands_behind in
+      let searches = none_parts (relation_rules search_rules d select.relations) (count_rules d select.filtering select.relations) limit.1 in
       each_can d select.relations can.written.2 (all_pass d select.relations operands.0 searches.0)
 
   -- **Nor its LIMIT.**
   pub limit_within : (limit_range select.limit).0 ≡ false
-  limit_within = (none_first (limit_range select.limit) _ operands_behind).0
+  limit_within = (none_first (limit_range select.limit) (after_limit_rules d select.filtering select.relations) operands_behind).0
 
 -- ---- the literal
 
