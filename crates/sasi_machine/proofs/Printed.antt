@@ -116,17 +116,5 @@ pub none_counted : (kind : ColumnType) (columns : List PickedColumn) (f : Filter
 none_counted kind columns f entry out = rw out refl
 
 -- another has one
-row_values : (kind : ColumnType) (columns : List PickedColumn) (key : List ℕ) (p : Partition) (row : List (Option Value)) → Some row ≡ row_of kind key columns p → row ≡ map (picked_value kind key p) columns
-row_values kind columns key p row is = by (is_live p) is
-  where
-    by : (b : Bool) → Some row ≡ (if b then Some (map (picked_value kind key p) columns) else None) → row ≡ map (picked_value kind key p) columns
-    by true e = cc
-    by false e = cc
-
-pub one_printed : (kind : ColumnType) (columns : List PickedColumn) (f : Filter) (entry : DecoratedKey × Partition) (before after : List ℕ) (row : List (Option Value)) → answers f entry ≡ true
-    → Some row ≡ row_of kind entry.0.key columns entry.1 → after ≡ before ++ row_line row → after ≡ before ++ flat_map row_line (rows_picked kind columns f (entry ∷ []))
-one_printed kind columns f entry before after row taken row_is printed =
-    rw taken (printed ∙ ap (λ (r : List (Option Value)). before ++ row_line r) (row_values kind columns entry.0.key entry.1 row row_is) ∙ ap (λ (l : List ℕ). before ++ l) (sym (append-nil (row_line (map (picked_value kind entry.0.key entry.1) columns)))))
-
 pub one_counted : (kind : ColumnType) (columns : List PickedColumn) (f : Filter) (entry : DecoratedKey × Partition) → answers f entry ≡ true → 1 ≡ length (rows_picked kind columns f (entry ∷ []))
 one_counted kind columns f entry taken = rw taken refl

@@ -32,6 +32,7 @@ mod relation;
 mod relation_rule;
 mod reply_refusal;
 mod row_filter;
+mod row_print;
 mod row_query;
 mod search;
 mod select;

@@ -1,17 +1,20 @@
 // Replies, and the lines that they are made of.
-ghost use Rattle.std.specs.Prelude.{◌≡◌, ◌≢◌, ◌++◌, ℕ, [], codes, OnOk};
+ghost use Rattle.std.specs.Prelude.{◌≡◌, ◌≢◌, ◌++◌, ℕ, [], codes, map, OnOk};
 ghost use Rattle.std.specs.List.{flat_map};
 ghost use Rattle.std.specs.Fmt.{decimal, signed_decimal};
 ghost use Rattle.uuid.specs.Text.{hyphenated_text, lower};
+ghost use Rattle.sasi_cells.specs.Rows.{IsStored, picked_value};
 ghost use Rattle.sasi_model.specs.Lines.{printed, refusal_line, value_printed};
-ghost use Rattle.sasi_model.specs.Abbreviations.{ok_line, row_line, count_line, text_printed, row_text, refusal_text, BadOption};
+ghost use Rattle.sasi_model.specs.Abbreviations.{ok_line, row_line, count_line, printed_byte, text_printed, row_text, refusal_text, BadOption};
 ghost use Rattle.sasi_machine.specs.Refusal.{refusal_of};
 ghost use Rattle.sasi_machine.specs.declared.refusal.Refusal.TheVariants.{NotUtf8, Syntax};
 
 use crate::Refusal;
+use crate::row_print::{push_live, push_picked};
 use itoa::{Buffer, Integer};
+use sasi_cells::{Partition, Picked};
 use sasi_schema::Limit;
-use sasi_types::{Row, Value};
+use sasi_types::{Key, Row, Value};
 use std::alloc::{AllocError, Global};
 use std::marker::Model;
 use uuid::Uuid;
@@ -71,6 +74,23 @@ impl Reply {
         Ok(())
     }
 
+    /// Adds the line of the row of a key's partition, with the values that are picked. They are printed from the key and the cells, without
+    /// a copy.
+    pub fn picked_row(
+        &mut self,
+        alloc: Global,
+        key: &Key,
+        part: &Partition,
+        picked: &Picked,
+    ) -> Result<(), AllocError>
+        requires { IsStored picked.now.key key.now }
+        ensures ok { OnOk result (self.new ≡ self.old ++ row_line (map (picked_value picked.now.key key.now part.now) picked.now.columns)) }
+    {
+        push_picked(alloc, &mut self.bytes, key, part, picked)?;
+        self.bytes.push(b'\n')?;
+        Ok(())
+    }
+
     /// Adds the line with the number of rows.
     pub fn count(&mut self, rows: u64) -> Result<(), AllocError>
         ensures ok { OnOk result (self.new ≡ self.old ++ count_line rows) }
@@ -102,7 +122,7 @@ fn push_refusal(reply: &mut Vec<u8>, refusal: &Refusal) -> Result<(), AllocError
 }
 
 // Adds a number in decimal.
-fn push_number<I: Integer>(reply: &mut Vec<u8>, number: I) -> Result<(), AllocError>
+pub(crate) fn push_number<I: Integer>(reply: &mut Vec<u8>, number: I) -> Result<(), AllocError>
     ensures ok { OnOk result (reply.new.items ≡ reply.old.items ++ I.text number) }
 {
     let mut buffer = Buffer::new();
@@ -180,22 +200,33 @@ fn bad_option(option: &[u8]) -> (&[u8], &[u8])
 }
 
 // Adds a text in quotes, with its quotes doubled.
-fn push_text(reply: &mut Vec<u8>, text: &[u8]) -> Result<(), AllocError>
+pub(crate) fn push_text(reply: &mut Vec<u8>, text: &[u8]) -> Result<(), AllocError>
     ensures ok { OnOk result (reply.new.items ≡ reply.old.items ++ text_printed text.now) }
 {
     reply.push(b'\'')?;
+    push_doubled(reply, text)?;
+    reply.push(b'\'')?;
+    Ok(())
+}
+
+// Adds a text with its quotes doubled. One without quotes is added as it is.
+fn push_doubled(reply: &mut Vec<u8>, text: &[u8]) -> Result<(), AllocError>
+    ensures ok { OnOk result (reply.new.items ≡ reply.old.items ++ flat_map printed_byte text.now) }
+{
+    if !text.contains(&b'\'') {
+        return reply.extend_from_slice(text);
+    }
     for byte in text {
         if *byte == b'\'' {
             reply.push(b'\'')?;
         }
         reply.push(*byte)?;
     }
-    reply.push(b'\'')?;
     Ok(())
 }
 
 // Adds a uuid with hyphens, in lower case.
-fn push_uuid(reply: &mut Vec<u8>, bytes: [u8; 16]) -> Result<(), AllocError>
+pub(crate) fn push_uuid(reply: &mut Vec<u8>, bytes: [u8; 16]) -> Result<(), AllocError>
     ensures ok { OnOk result (reply.new.items ≡ reply.old.items ++ hyphenated_text lower bytes) }
 {
     let mut buffer = Uuid::encode_buffer();
@@ -214,10 +245,7 @@ fn push_value(reply: &mut Vec<u8>, value: &Option<Value>) -> Result<(), AllocErr
             reply.extend_from_slice(b"null")?;
             Ok(())
         }
-        Some(Value::Text(text)) => push_text(reply, text.bytes()),
-        Some(Value::Int(number)) => push_number(reply, *number),
-        Some(Value::BigInt(number)) => push_number(reply, *number),
-        Some(Value::Uuid(bytes)) => push_uuid(reply, *bytes),
+        Some(value) => push_live(reply, value),
     }
 }
 

@@ -98,13 +98,8 @@ impl RowQuery {
         if !self.answers(key, part, kit)? {
             return Ok(0);
         }
-        match part.row(alloc, key, &self.picked)? {
-            Some(row) => {
-                reply.row(&row)?;
-                Ok(1)
-            }
-            None => Ok(0),
-        }
+        reply.picked_row(alloc, key, part, &self.picked)?;
+        Ok(1)
     }
 
     // Whether the row is there, and accepted.

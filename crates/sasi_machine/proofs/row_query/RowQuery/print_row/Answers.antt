@@ -2,7 +2,8 @@ use Rattle.std.proofs.Common.{sym, ◌∙◌}
 use Rattle.sasi_types.specs.declared.decorated_key.DecoratedKey.{DecoratedKey}
 use Rattle.sasi_model.specs.Cells.{Partition}
 use Rattle.sasi_machine.specs.Where.{where_of}
-use Rattle.sasi_machine.proofs.Printed.{none_counted, none_printed, one_counted, one_printed}
+use Rattle.sasi_machine.proofs.Printed.{none_counted, none_printed, one_counted}
+use Rattle.sasi_machine.proofs.RowPrints.{row_printed}
 use Rattle.sasi_machine.proofs.row_query.RowQuery.print_row.Goals as goal
 
 pub returns-then-not-branch-clause-reply : goal.returns-then-not-branch-clause-reply
@@ -17,15 +18,14 @@ returns-then-not-branch-clause-rows g c token =
     let entry : DecoratedKey × Partition = (record { token = token; key = c.args.key.now }, c.args.part.now) in
     none_counted q.picked.key q.picked.columns (where_of q.filter) entry (sym (c.in_ok-answers.ensures.answers token) ∙ c.if-not-branch.true)
 
-pub returns-in_ok-row-in-Some-clause-reply : goal.returns-in_ok-row-in-Some-clause-reply
-returns-in_ok-row-in-Some-clause-reply g c token =
+pub returns-clause-reply : goal.returns-clause-reply
+returns-clause-reply g c token =
     let q = c.args.self.now in
     let entry : DecoratedKey × Partition = (record { token = token; key = c.args.key.now }, c.args.part.now) in
-    one_printed q.picked.key q.picked.columns (where_of q.filter) entry c.args.reply.now c.row-in-Some-2.new.self c.in-Some.row (sym (c.in_ok-answers.ensures.answers token) ∙ c.if-not-branch.false)
-    (sym c.in-Some.is ∙ c.in_ok-row.ensures) c.in_ok-row-in-Some.ensures.ok
+    row_printed q.picked.key q.picked.columns (where_of q.filter) entry c.args.reply.now _ (sym (c.in_ok-answers.ensures.answers token) ∙ c.if-not-branch.false) c.in_ok-picked_row.ensures.ok
 
-pub returns-in_ok-row-in-Some-clause-rows : goal.returns-in_ok-row-in-Some-clause-rows
-returns-in_ok-row-in-Some-clause-rows g c token =
+pub returns-clause-rows : goal.returns-clause-rows
+returns-clause-rows g c token =
     let q = c.args.self.now in
     let entry : DecoratedKey × Partition = (record { token = token; key = c.args.key.now }, c.args.part.now) in
     one_counted q.picked.key q.picked.columns (where_of q.filter) entry (sym (c.in_ok-answers.ensures.answers token) ∙ c.if-not-branch.false)

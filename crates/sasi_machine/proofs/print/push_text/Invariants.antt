@@ -1,8 +1,0 @@
-use Rattle.std.proofs.Common.{◌≡◌, ◌++◌, ◌∷◌, take}
-use Rattle.std.specs.List.{flat_map}
-use Rattle.sasi_model.specs.Abbreviations.{printed_byte}
-use Rattle.sasi_machine.proofs.print.push_text.Given as goal
-
--- the bytes so far are printed after the first quote
-abbrev pub invariant-loop-byte : goal.invariant-loop-byte
-invariant-loop-byte l = l.reply.items ≡ l.fn.reply.items ++ 39 ∷ flat_map printed_byte (take l.byte-index l.text)
