@@ -1,8 +1,11 @@
--- For callers: what it costs to read the keys of a token in a file is within what one look at the token may cost there.
-use Rattle.std.proofs.Common.{◌≡◌, ℕ, zero, suc, ◌+◌, ◌*◌, ◌^◌, ◌≤◌, nat_eq, Bool, true, false, if◌then◌else◌, List, [], ◌∷◌, ◌++◌, length, refl, arith, ⊎_elim}
+-- For callers: what it costs to read the keys of a token in a file is within what one look at the token may cost there; and the whole cost grows
+-- with LIMIT.
+use Rattle.std.proofs.Common.{◌≡◌, ℕ, zero, suc, ◌+◌, ◌*◌, ◌^◌, ◌≤◌, nat_eq, Bool, true, false, if◌then◌else◌, List, [], ◌∷◌, ◌++◌, length, None, Some, refl, arith, ⊎_elim}
 use Rattle.std.proofs.lemmas.Bool.Decides.{leb_tells}
 use Rattle.sasi_types.specs.declared.partitioner.Partitioner.{Partitioner}
 use Rattle.sasi_types.specs.Token.{token_of}
+use Rattle.sasi_model.specs.Conditions.{Condition}
+use Rattle.sasi_model.specs.Filters.{answers}
 use Rattle.sasi_body.specs.Body.{body}
 use Rattle.sasi_tokentree.specs.Format.{nodes}
 use Rattle.sasi_tokentree.specs.Heights.{height}
@@ -12,7 +15,10 @@ use Rattle.sasi_dataread.specs.declared.token_keys.PlacedKey.{PlacedKey}
 use Rattle.sasi_dataread.specs.Bodies.{partition_pages}
 use Rattle.sasi_dataread.specs.Finds.{token_reads}
 use Rattle.sasi_dataread.specs.PlacedKeys.{keys_at}
-use Rattle.sasi_candidates.specs.Costs.{token_pages}
+use Rattle.sasi_candidates.specs.Costs.{cost, token_cost, token_pages}
+use Rattle.sasi_candidates.specs.Groups.{groups, where_of}
+use Rattle.sasi_candidates.specs.Parts.{Part}
+use Rattle.sasi_candidates.proofs.GroupLaws.{looks_more, looks_most}
 
 -- ---- the height of a key tree
 
@@ -72,3 +78,12 @@ reads_are p token at (one ∷ others) = by (nat_eq (token_of p one.0) token) (re
 -- **To open a file and to read the keys of a token in it** is within what one look at the token may cost there, also where it has none.
 pub look_within : (p : Partitioner) (token at : ℕ) (content : Content) (most pairs : ℕ) → 16 * pairs ≤ 2 ^ 40 → 3 + (2 * height most pairs + 2 + token_reads p token at content) ≤ 16 + 2 * token_pages p token at content
 look_within p token at content most pairs short = omega (arith, height_five most pairs short, reads_are p token at content, keys_within p token at content)
+
+-- ---- all of it
+
+-- **The cost of a SELECT grows with LIMIT, and is most where there is none.**
+pub cost_more : (p : Partitioner) (parts : List Part) (conditions : List Condition) (m n : ℕ) → m ≤ n → cost p parts conditions (Some m) ≤ cost p parts conditions (Some n)
+cost_more p parts conditions m n le = omega (arith, looks_more (token_cost p parts) (answers (where_of conditions)) m n (groups p parts conditions) le)
+
+pub cost_most : (p : Partitioner) (parts : List Part) (conditions : List Condition) (n : ℕ) → cost p parts conditions (Some n) ≤ cost p parts conditions None
+cost_most p parts conditions n = omega (arith, looks_most (token_cost p parts) (answers (where_of conditions)) n (groups p parts conditions))

@@ -296,6 +296,23 @@ rows_if a b = cond a ((one_key, row 1 (codes "a")) ∷ cond b ((other_key, row 2
 none_in_keys : (candidates_in (in_memory ∷ []) (where_of both_asked) (record { token = 7; rows = both_rows })).rows ≡ []
 none_in_keys = ap (λ b. rows_if b (is_candidate (in_memory ∷ []) (where_of both_asked) other_key)) one_is_none ∙ ap (λ b. rows_if false b) other_is_none
 
+-- asked for one of them, only the key that is a hit is a candidate
+abbrev first_asked : List Condition
+first_asked = Indexed first (equals (codes "a")) ∷ []
+
+one_is : is_candidate (in_memory ∷ []) (where_of first_asked) one_key ≡ true
+one_is = ap (λ b. (b || false) && true) one_first
+
+other_isnt : is_candidate (in_memory ∷ []) (where_of first_asked) other_key ≡ false
+other_isnt = ap (λ b. (b || false) && true) other_first
+
+one_in_keys : (candidates_in (in_memory ∷ []) (where_of first_asked) (record { token = 7; rows = both_rows })).rows ≡ (one_key, row 1 (codes "a")) ∷ []
+one_in_keys = ap (λ b. rows_if b (is_candidate (in_memory ∷ []) (where_of first_asked) other_key)) one_is ∙ ap (λ b. rows_if true b) other_isnt
+
+-- and without a condition both are
+both_in_keys : (candidates_in (in_memory ∷ []) (where_of []) (record { token = 7; rows = both_rows })).rows ≡ both_rows
+both_in_keys = refl
+
 -- ---- how often tokens are looked at
 
 -- a token that costs 10 is paid for each candidate, and once where there is none

@@ -12,7 +12,7 @@ use Rattle.sasi_model.specs.Cells.{Partition}
 use Rattle.sasi_model.specs.Conditions.{Condition}
 use Rattle.sasi_model.specs.Filters.{Filter, tree}
 use Rattle.sasi_candidates.specs.Candidates.{admits, candidates, is_candidate}
-use Rattle.sasi_candidates.specs.Checks.{looked_of}
+use Rattle.sasi_candidates.specs.Checks.{looked, looked_of}
 use Rattle.sasi_candidates.specs.Groups.{Group, by_token, candidates_in, groups, groups_with, is_looked, key_asked, looks, rows_in, touches, where_of, with_key}
 use Rattle.sasi_candidates.specs.Parts.{Part, maps_of}
 use Rattle.sasi_candidates.proofs.Hits.{tree_grows}
@@ -152,3 +152,33 @@ looks_all cost test (suc n) (g ∷ gs) lt =
     ap (λ (l : List (DecoratedKey × Partition)). length l) (filter-append test g.rows (rows_in gs)) ∙ length-append (filter test g.rows) (filter test (rows_in gs)) in
     ap (λ (k : ℕ). max 1 k * cost g.token + looks cost test (Some (suc n - rows)) gs) (looked_whole test (suc n) g.rows (omega (arith, lt, parts)))
     ∙ ap (λ (k : ℕ). max 1 (length g.rows) * cost g.token + k) (looks_all cost test (suc n - rows) gs (omega (arith, lt, parts)))
+
+-- ---- each candidate that is checked is paid
+
+looked_on : {A : Type 0} (test : A → Bool) (n : ℕ) (xs ys : List A) → looked_of n test (xs ++ ys) ≡ looked_of n test xs + looked_of (n - length (filter test xs)) test ys
+looked_on test zero xs ys =
+    let none : 0 - length (filter test xs) ≡ 0 = omega arith in
+    let nothing : looked_of (0 - length (filter test xs)) test ys ≡ 0 = ap (λ m. looked_of m test ys) none in
+    omega (arith, nothing)
+looked_on test (suc n) [] ys =
+    let all : suc n - 0 ≡ suc n = omega arith in
+    omega (arith, ap (λ m. looked_of m test ys) all)
+looked_on {A} test (suc n) (x ∷ xs) ys = by (test x) (looked_on test n xs ys) (looked_on test (suc n) xs ys)
+  where
+    by : (b : Bool) → looked_of n test (xs ++ ys) ≡ looked_of n test xs + looked_of (n - length (filter test xs)) test ys
+        → looked_of (suc n) test (xs ++ ys) ≡ looked_of (suc n) test xs + looked_of (suc n - length (filter test xs)) test ys
+        → suc (if b then looked_of n test (xs ++ ys) else looked_of (suc n) test (xs ++ ys))
+        ≡ suc (if b then looked_of n test xs else looked_of (suc n) test xs) + looked_of (suc n - length (cond b (x ∷ filter test xs) (filter test xs))) test ys
+    by true one other =
+        let fewer : n - length (filter test xs) ≡ suc n - suc (length (filter test xs)) = omega arith in
+        omega (arith, one, ap (λ m. looked_of m test ys) fewer)
+    by false one other = omega (arith, other)
+
+-- **A look at a token is paid for each candidate that is checked.**
+pub each_paid : (test : DecoratedKey × Partition → Bool) (limit : Option ℕ) (gs : List Group) → looked limit test (rows_in gs) ≤ looks (λ token. 1) test limit gs
+each_paid test None [] = omega arith
+each_paid test None (g ∷ gs) = omega (arith, length-append g.rows (rows_in gs), each_paid test None gs)
+each_paid test (Some zero) [] = omega arith
+each_paid test (Some zero) (g ∷ gs) = omega arith
+each_paid test (Some (suc n)) [] = omega arith
+each_paid test (Some (suc n)) (g ∷ gs) = omega (arith, looked_on test (suc n) g.rows (rows_in gs), each_paid test (Some (suc n - length (filter test g.rows))) gs)
