@@ -1,5 +1,5 @@
 -- The keys of a token, gathered from the partitions of a data file.
-use Rattle.std.proofs.Common.{◌≡◌, ◌≢◌, ◌⊎◌, ℕ, zero, suc, ◌+◌, ◌-◌, ◌*◌, ◌<◌, ◌≤◌, List, ◌∷◌, [], ◌++◌, length, take, drop, refl, sym, ◌∙◌, ap, subst, arith, length-append, append_assoc, append-nil, inl, inr, Option, Some, None, Bool, true}
+use Rattle.std.proofs.Common.{◌≡◌, ◌≢◌, ◌⊎◌, ℕ, zero, suc, ◌+◌, ◌-◌, ◌*◌, ◌<◌, ◌≤◌, List, ◌∷◌, [], ◌++◌, length, take, drop, refl, sym, ◌∙◌, ap, subst, arith, length-append, append_assoc, append-nil, inl, inr, IsSome, Option, Some, None, Bool, true}
 use Rattle.std.specs.Prelude.{nat_eq, if◌then◌else◌}
 use Rattle.std.specs.declared.result.Result.{Result}
 use Rattle.std.specs.List.{AllByRecursion}
@@ -17,10 +17,11 @@ use Rattle.sasi_types.specs.Token.{token_of}
 use Rattle.sasi_model.specs.Cells.{Partition}
 use Rattle.sasi_body.specs.Body.{body}
 use Rattle.sasi_tokentree.specs.Damages.{start}
-use Rattle.sasi_tokentree.specs.Format.{pair_at}
+use Rattle.sasi_tokentree.specs.Format.{HasTree, pair_at}
 use Rattle.sasi_tokentree.specs.Heights.{height}
 use Rattle.sasi_tokentree.specs.Reads.{CountsBelow, CountsDown}
 use Rattle.sasi_tokentree.specs.Scans.{HasEntry, PairScan, PassesOne, ReadsEntry, ReadsFirstPair, ReadsHeader, StepsBehindCounted, StepsToPair}
+use Rattle.sasi_tokentree.proofs.LeafPairs.{count_is}
 use Rattle.sasi_datawrite.specs.Format.{Content, header, key_pairs, pairs_from, partition_bytes, partitions}
 use Rattle.sasi_datawrite.proofs.Laws.{pairs_length}
 use Rattle.sasi_dataread.specs.declared.token_keys.PlacedKey.{PlacedKey}
@@ -32,7 +33,7 @@ use Rattle.sasi_dataread.specs.Finds.{LeadsTo, token_reads}
 use Rattle.sasi_dataread.specs.PlacedKeys.{AddsKey, BeginsToken, HasKeysOfToken, LeadToKeys, LeadsToKey, keys_at}
 use Rattle.sasi_dataread.proofs.Pairs.{as_many_left, nth, nth_stands}
 use Rattle.sasi_dataread.proofs.DataScan.{IsShort, open_same, tree_there}
-use Rattle.sasi_dataread.proofs.Looking.{leads_there}
+use Rattle.sasi_dataread.proofs.Looking.{leads_there, left_of}
 use Rattle.sasi_dataread.proofs.Finding.{all_above, begun, first_causes, is_here, left_cost, left_less, steps_to_it}
 
 -- ---- the keys of the partitions from an index on
@@ -240,22 +241,32 @@ ComesTo opened index passed (Some pair) = passed ≡ index + 1
 pub record GathersStored (v : View) (opened : OpenDataFile) (token turns passed : ℕ) (next : Option Pair) (keys : List PlacedKey) : Type 0 where
   pub first : ℕ
   pub begins : BeginsToken v opened token first
+  pub below : (bytes : Bytes) (pairs : List Pair) → contents v opened.file ≡ Some bytes → HasTree bytes opened.tree pairs → CountsBelow pairs token first
   pub lead : LeadToKeys v opened token first keys
   pub turn : turns ≤ length keys
   pub comes : ComesTo opened (first + length keys) passed next
 
 pub stored_first : (v : View) (opened : OpenDataFile) (file : FileName) (tree : TreeRef) (token passed : ℕ) (next : Option Pair) → file ≡ opened.file → tree ≡ opened.tree
-    → StepsBehindCounted v file tree token passed next → GathersStored v opened token 0 passed next []
-stored_first v opened file tree token passed None file_is tree_is steps = record {
+    → StepsBehindCounted v file tree token passed next → ReadsFirstPair v file tree token passed next → (IsSome next → passed ≤ tree.pairs) → GathersStored v opened token 0 passed next []
+stored_first v opened file tree token passed None file_is tree_is steps gives within = record {
   first = passed;
   begins = λ bytes is. subst (λ (t : TreeRef). (t.pairs ≡ 0) ⊎ CountsDown bytes token 0 (start t) t.pairs passed) tree_is (steps.1 bytes (ap (λ (f : FileName). contents v f) file_is ∙ is));
+  below = λ bytes pairs is has.
+      (let from = gives bytes pairs (ap (λ (f : FileName). contents v f) file_is ∙ is) (subst (λ (t : TreeRef). HasTree bytes t pairs) (sym tree_is) has) in
+      subst (λ (n : ℕ). CountsBelow pairs token n) (sym from.2.1) from.1);
   lead = tt;
   turn = omega arith;
   comes = omega (arith, steps.0, ap (λ (t : TreeRef). t.pairs) tree_is);
 }
-stored_first v opened file tree token passed (Some pair) file_is tree_is steps = record {
+stored_first v opened file tree token passed (Some pair) file_is tree_is steps gives within = record {
   first = steps.0;
   begins = λ bytes is. inr (subst (λ (t : TreeRef). CountsDown bytes token 0 (start t) t.pairs steps.0) tree_is (steps.2 bytes (ap (λ (f : FileName). contents v f) file_is ∙ is)));
+  below = λ bytes pairs is has.
+      (let tree_has = subst (λ (t : TreeRef). HasTree bytes t pairs) (sym tree_is) has in
+      let from = gives bytes pairs (ap (λ (f : FileName). contents v f) file_is ∙ is) tree_has in
+      let left = left_of pairs from.0 passed pair from.2 in
+      let same : from.0 ≡ steps.0 = omega (arith, left.0, left.1, within refl, count_is bytes tree pairs tree_has, steps.1) in
+      subst (λ (n : ℕ). CountsBelow pairs token n) same from.1);
   lead = tt;
   turn = omega arith;
   comes = omega (arith, steps.1);
@@ -297,6 +308,7 @@ stored_on v w opened token turns place scan after last next keys more change g l
     record {
       first = g.first;
       begins = g.begins;
+      below = g.below;
       lead = subst (λ (l : List PlacedKey). LeadToKeys v opened token g.first l) (sym adds.added) (lead_on v opened token g.first keys placed g.lead one);
       turn = omega (arith, g.turn, longer);
       comes = comes_on opened scan after index (g.first + length more) next tree_is comes (omega (arith, longer)) steps;
@@ -305,12 +317,13 @@ stored_on v w opened token turns place scan after last next keys more change g l
 -- it ends at a pair of another token
 pub stored_none : (v : View) (opened : OpenDataFile) (token turns passed : ℕ) (next : Option Pair) (keys : List PlacedKey) → GathersStored v opened token turns passed next keys
     → ReadsEntry v opened.file opened.tree passed next → LeadsTo token next None → HasKeysOfToken v opened token keys
-stored_none v opened token turns passed None keys g entry other = record { first = g.first; begins = g.begins; lead = g.lead; ends = inl g.comes }
+stored_none v opened token turns passed None keys g entry other = record { first = g.first; begins = g.begins; below = g.below; lead = g.lead; ends = inl g.comes }
 stored_none v opened token turns passed (Some pair) keys g entry other =
     let index : entry.0 ≡ g.first + length keys = omega (arith, entry.1, g.comes) in
     record {
       first = g.first;
       begins = g.begins;
+      below = g.below;
       lead = g.lead;
       ends = inr (pair, other pair refl, λ bytes is. subst (λ (n : ℕ). HasEntry bytes opened.tree n pair) index (entry.2 bytes is));
     }
@@ -318,4 +331,4 @@ stored_none v opened token turns passed (Some pair) keys g entry other =
 -- or where all were passed
 pub stored_all : (v : View) (opened : OpenDataFile) (token turns passed : ℕ) (next : Option Pair) (keys : List PlacedKey) → GathersStored v opened token turns passed next keys → opened.tree.pairs ≤ turns
     → HasKeysOfToken v opened token keys
-stored_all v opened token turns passed next keys g le = record { first = g.first; begins = g.begins; lead = g.lead; ends = inl (omega (arith, le, g.turn)) }
+stored_all v opened token turns passed next keys g le = record { first = g.first; begins = g.begins; below = g.below; lead = g.lead; ends = inl (omega (arith, le, g.turn)) }

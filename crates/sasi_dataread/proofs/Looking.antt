@@ -94,7 +94,7 @@ pair_here pairs index pair rest is =
     let here : pair_at pairs (index + 0) ≡ pair = sym (get_or-drop index pairs 0 (record { token = 0; place = 0 })) ∙ ap (λ (l : List Pair). pair_at l 0) is in
     ap (λ (k : ℕ). pair_at pairs k) (omega arith) ∙ here
 
-left_of : (pairs : List Pair) (index passed : ℕ) (pair : Pair) → drop index pairs ≡ pair ∷ drop passed pairs → (index < length pairs) × (length pairs - suc index ≡ length pairs - passed)
+pub left_of : (pairs : List Pair) (index passed : ℕ) (pair : Pair) → drop index pairs ≡ pair ∷ drop passed pairs → (index < length pairs) × (length pairs - suc index ≡ length pairs - passed)
 left_of pairs index passed pair is =
     let taken : length (drop index pairs) ≡ length (pair ∷ drop passed pairs) = ap (λ (l : List Pair). length l) is in
     let here = length-drop index pairs in

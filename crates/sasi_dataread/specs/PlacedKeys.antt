@@ -7,7 +7,8 @@ use Rattle.sasi_model.specs.Cells.{Partition}
 use Rattle.sasi_host.specs.Names.{Bytes}
 use Rattle.sasi_host.specs.View.{View, contents}
 use Rattle.sasi_tokentree.specs.Damages.{start}
-use Rattle.sasi_tokentree.specs.Reads.{CountsDown}
+use Rattle.sasi_tokentree.specs.Format.{HasTree}
+use Rattle.sasi_tokentree.specs.Reads.{CountsBelow, CountsDown}
 use Rattle.sasi_tokentree.specs.Scans.{HasEntry}
 use Rattle.sasi_datawrite.specs.Format.{Content, partition_bytes}
 use Rattle.sasi_dataread.specs.declared.token_keys.PlacedKey.{PlacedKey}
@@ -46,6 +47,8 @@ EndsToken v opened token index =
 pub record HasKeysOfToken (v : View) (opened : OpenDataFile) (token : ℕ) (keys : List PlacedKey) : Type 0 where
   pub first : ℕ
   pub begins : BeginsToken v opened token first
+  -- so many are below it where the file has the key tree of these pairs
+  pub below : (bytes : Bytes) (pairs : List Pair) → contents v opened.file ≡ Some bytes → HasTree bytes opened.tree pairs → CountsBelow pairs token first
   pub lead : LeadToKeys v opened token first keys
   pub ends : EndsToken v opened token (first + length keys)
 

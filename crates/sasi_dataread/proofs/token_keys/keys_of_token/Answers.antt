@@ -133,7 +133,8 @@ loop-turn-init g c =
           (ap (λ (t : PairScan). t.tree) c.tree-tree.ensures) c.in_ok-next.ensures.header;
       stored = subst (λ (l : List PlacedKey). GathersStored v c.args.opened.now c.args.token 0 c.first.new.self.passed c.in_ok-next.next l) (sym c.new-keys.ensures.items)
           (stored_first v c.args.opened.now c.tree-tree.result.buffered.file c.tree-tree.result.tree c.args.token c.first.new.self.passed c.in_ok-next.next file_is
-          (ap (λ (t : PairScan). t.tree) c.tree-tree.ensures) c.in_ok-next.ensures.ends);
+          (ap (λ (t : PairScan). t.tree) c.tree-tree.ensures) c.in_ok-next.ensures.ends c.in_ok-next.ensures.ok
+          (λ some. omega (arith, (c.in_ok-next.ensures.passed some).within, ap (λ (t : TreeRef). t.pairs) c.first.ensures.tree)));
       gathers = λ most partitioner content le is have. subst (λ (l : List PlacedKey). Gathers partitioner content c.args.token 0 c.first.new.self.passed c.in_ok-next.next l w.reads
           (v.reads + (2 * height most c.args.opened.now.tree.pairs + 2 + token_reads partitioner c.args.token (length header) content))) (sym c.new-keys.ensures.items)
           (gathers_first v w c.args.opened.now c.tree-tree.result c.args.token c.first.new.self.passed c.in_ok-next.next c.first.result
