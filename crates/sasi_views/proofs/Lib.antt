@@ -1,0 +1,5 @@
+pub mod BookLaws
+mod StepLaws
+mod Listing
+mod BookChanges
+mod DeadLaws
