@@ -1,5 +1,5 @@
 -- Rows that are printed one after another.
-use Rattle.std.proofs.Common.{◌≡◌, ℕ, ◌+◌, ◌≤◌, ◌<◌, nat_le, subst, Bool, true, false, if◌then◌else◌, List, [], ◌∷◌, ◌++◌, length, map, Option, None, Some, refl, sym, ap, ◌∙◌, arith, append_assoc, length-append}
+use Rattle.std.proofs.Common.{◌≡◌, ℕ, ◌+◌, ◌≤◌, ◌<◌, nat_le, subst, true, false, if◌then◌else◌, List, [], ◌∷◌, ◌++◌, length, map, Option, None, Some, refl, sym, ap, ◌∙◌, arith, append_assoc, length-append}
 use Rattle.std.specs.List.{flat_map}
 use Rattle.std.proofs.lemmas.Grind.{flat_map-append}
 use Rattle.std.proofs.lemmas.Bool.Decides.{nat_tests}
@@ -8,8 +8,8 @@ use Rattle.sasi_types.specs.declared.column.ColumnType.{ColumnType}
 use Rattle.sasi_types.specs.declared.decorated_key.DecoratedKey.{DecoratedKey}
 use Rattle.sasi_cells.specs.declared.picked.PickedColumn.{PickedColumn}
 use Rattle.sasi_types.specs.declared.value.Value.{Value}
-use Rattle.sasi_cells.specs.Rows.{picked_value, row_of}
-use Rattle.sasi_model.specs.Cells.{Partition, is_live}
+use Rattle.sasi_cells.specs.Rows.{picked_value}
+use Rattle.sasi_model.specs.Cells.{Partition}
 use Rattle.sasi_model.specs.Filters.{Allows, Filter, answers, limited}
 use Rattle.sasi_model.specs.Abbreviations.{count_line, row_line}
 use Rattle.sasi_model.specs.Lines.{rows_lines}
