@@ -95,7 +95,7 @@ given_is old new m n cs le is out =
 
 -- ---- replace: a for the removed, b for the added
 
-abbrev swapped : Bool → Bool → Option Counted → Option Counted
+abbrev pub swapped : Bool → Bool → Option Counted → Option Counted
 swapped a b o =
     let learnt = cond b (known_so o) o in
     let removed = cond a (option_map (with_current false) learnt) learnt in

@@ -1,21 +1,25 @@
 -- Dead components among entries that rise.
-use Rattle.std.proofs.Common.{◌≡◌, Bool, true, false, true≢false, cond, ◌∷◌, None, Some, is_lt, refl, sym, ap, subst, ◌∙◌}
+use Rattle.std.proofs.Common.{◌≡◌, Option, [], Bool, true, false, true≢false, cond, ◌&&◌, ◌∷◌, None, Some, is_lt, refl, sym, ap, subst, ◌∙◌}
 use Rattle.std.specs.BTreeMap.{is_at}
+use Rattle.std.specs.BTreeMap.Range.{range_contains}
 use Rattle.std.specs.Cmp.{eq_by_cmp_equiv}
 use Rattle.std.specs.declared.cmp.Ordering.{Ordering}
 use Rattle.std.specs.declared.cmp.Ordering.TheVariants.{Less, Equal, Greater}
+use Rattle.std.specs.declared.ops.Bound.TheVariants.{Included, Unbounded}
+use Rattle.std.specs.List.{AllByRecursion, filter}
+use Rattle.std.specs.Ordering.{is_le, ordering_reverse}
 use Rattle.std.specs.List.Sorted.{IsStrictlySortedBy}
 use Rattle.std.specs.Map.{keys_of}
 use Rattle.std.proofs.lemmas.Map.{lookup-none}
-use Rattle.std.proofs.lemmas.Map.Entries.{lookup_head, none_below_head, none_past_head}
-use Rattle.std.proofs.lemmas.Map.Keys.{IsDistinct-from_sorted, sorted_tail}
+use Rattle.std.proofs.lemmas.Map.Entries.{lookup-filter-keys, lookup_head, none_below_head, none_past_head}
+use Rattle.std.proofs.lemmas.Map.Keys.{IsDistinct-from_sorted, sorted_head, sorted_tail}
 use Rattle.sasi_views.specs.declared.component.Component.{Component}
 use Rattle.sasi_views.specs.declared.counted.Counted.{Counted}
 use Rattle.sasi_views.specs.Books.{dead_in}
 use Rattle.sasi_views.specs.Components.{component_cmp}
 use Rattle.sasi_views.specs.ComponentLaws.{components_total}
 use Rattle.sasi_views.proofs.BookChanges.{Entries, at_entry}
-use Rattle.sasi_views.proofs.StepLaws.{same_itself}
+use Rattle.sasi_views.proofs.StepLaws.{one, same_itself}
 
 abbrev pub AreRising : Entries → Type 0
 AreRising entries = IsStrictlySortedBy component_cmp (keys_of entries)
@@ -61,3 +65,56 @@ pub found_least : (e : Component × Counted) (s t whole : Entries) (c : Componen
     → dead_in (at_entry whole c) ≡ true → is_lt (component_cmp c e.0) ≡ false
 found_least e s t whole c is rise before dead =
     none_below e t c (subst AreRising is rise) (sym (ap (λ (es : Entries). dead_in (at_entry es c)) is) ∙ sym before ∙ dead)
+
+-- ---- the entries from a component on
+
+abbrev pub is_from : Component → Component → Bool
+is_from from c = range_contains component_cmp (Included from) Unbounded c
+
+abbrev pub entries_from : Component → Entries → Entries
+entries_from from entries = filter (λ e. is_from from e.0) entries
+
+all_more : (P : Component → Type 0) (e : Component × Counted) (es : Entries) → P e.0 → AllByRecursion P (keys_of es) → (b : Bool) → AllByRecursion P (keys_of (cond b (e ∷ es) es))
+all_more P e es first rest true = (first, rest)
+all_more P e es first rest false = rest
+
+all_from : (P : Component → Type 0) (from : Component) (es : Entries) → AllByRecursion P (keys_of es) → AllByRecursion P (keys_of (entries_from from es))
+all_from P from [] all = tt
+all_from P from (e ∷ es) all = all_more P e (entries_from from es) all.0 (all_from P from es all.1) (is_from from e.0)
+
+rise_first : (e : Component × Counted) (es : Entries) → AllByRecursion (λ k. component_cmp e.0 k ≡ Less) (keys_of es) → AreRising es → AreRising (e ∷ es)
+unfolding IsStrictlySortedBy
+rise_first e es above rise = (above, rise)
+
+rise_more : (e : Component × Counted) (es : Entries) → AllByRecursion (λ k. component_cmp e.0 k ≡ Less) (keys_of es) → AreRising es → (b : Bool) → AreRising (cond b (e ∷ es) es)
+rise_more e es above rise true = rise_first e es above rise
+rise_more e es above rise false = rise
+
+pub rise_from : (from : Component) (es : Entries) → AreRising es → AreRising (entries_from from es)
+rise_from from [] rise = rise
+rise_from from (e ∷ es) rise =
+    rise_more e (entries_from from es) (all_from (λ k. component_cmp e.0 k ≡ Less) from es (sorted_head component_cmp e.0 (keys_of es) rise))
+    (rise_from from es (sorted_tail component_cmp e.0 (keys_of es) rise)) (is_from from e.0)
+
+below_from : (r : Ordering) → (is_le r && true) ≡ false → is_lt (ordering_reverse r) ≡ true
+below_from Less e = cc
+below_from Equal e = cc
+below_from Greater e = refl
+
+alive : (o : Option Counted) → (dead_in o ≡ true → ⊥) → dead_in o ≡ false
+alive o not_dead = by (dead_in o) refl
+  where
+    by : (b : Bool) → dead_in o ≡ b → b ≡ false
+    by true e = absurd (not_dead e)
+    by false e = refl
+
+-- where no component below it is dead, what is dead is among them
+pub dead_from : (from : Component) (es : Entries) (c : Component) → (dead_in (at_entry es c) ≡ true → is_lt (component_cmp c from) ≡ false)
+    → dead_in (at_entry es c) ≡ dead_in (at_entry (entries_from from es) c)
+dead_from from es c below =
+    by (is_from from c) refl
+    ∙ sym (ap dead_in (lookup-filter-keys (is_at (component_cmp c)) (is_from from) (is_from from c) (λ k e. ap (is_from from) (sym (one c k e))) es))
+  where
+    by : (b : Bool) → is_from from c ≡ b → dead_in (at_entry es c) ≡ dead_in (cond b (at_entry es c) None)
+    by true is = refl
+    by false is = alive (at_entry es c) (λ e. true≢false (sym (ap is_lt (components_total.antisymm c from) ∙ below_from (component_cmp from c) is) ∙ below e))

@@ -3,3 +3,4 @@ mod StepLaws
 mod Listing
 mod BookChanges
 mod DeadLaws
+mod DeadBounds

@@ -1,5 +1,5 @@
 -- What changes of a list of components make of what the book knows of one.
-use Rattle.std.proofs.Common.{◌≡◌, ℕ, ◌+◌, ◌-◌, ◌≤◌, ◌<◌, ◌^◌, suc, Bool, true, false, cond, if◌then◌else◌, ◌||◌, List, [], ◌∷◌, ◌++◌, length, get_or, drop, Option, None, Some, option_map, is_some, IfNone, Result, Ok, Err, OnOk, OnErr, refl, sym, ap, subst, ◌∙◌, arith, drop-cons, drop_of_length-le}
+use Rattle.std.proofs.Common.{◌≡◌, ℕ, ◌+◌, ◌-◌, ◌≤◌, ◌<◌, ◌^◌, suc, Bool, true, false, cond, if◌then◌else◌, ◌||◌, List, [], ◌∷◌, ◌++◌, length, get_or, drop, Option, None, Some, option_map, is_some, Result, Ok, Err, OnOk, OnErr, refl, sym, ap, subst, ◌∙◌, arith, drop-cons, drop_of_length-le}
 use Rattle.std.specs.Cmp.{eq_by_cmp_equiv}
 use Rattle.std.specs.Ordering.{is_eq}
 use Rattle.std.specs.declared.cmp.Ordering.{Ordering}
@@ -111,6 +111,14 @@ lowered_all (x ∷ xs) c o le =
 
 -- ---- room for counts
 
+pub listed_one : (xs : List Component) (c : Component) → among c xs ≡ true → 1 ≤ lists c xs
+listed_one [] c e = cc
+listed_one (x ∷ xs) c e = by (same x c) (listed_one xs c) e
+  where
+    by : (b : Bool) → (among c xs ≡ true → 1 ≤ lists c xs) → (b || among c xs) ≡ true → 1 ≤ (if b then 1 else 0) + lists c xs
+    by true rest e = omega arith
+    by false rest e = omega (arith, rest e)
+
 abbrev one_if : Bool → ℕ
 one_if b = if b then 1 else 0
 
@@ -218,7 +226,3 @@ added_undone r xs more x k old new none is ok err =
 pub always_err : {T E : Type 0} (r : Result T E) (P : Type 0) → P → OnErr r P
 always_err (Ok v) P p = tt
 always_err (Err e) P p = p
-
-pub always_none : {T : Type 0} (o : Option T) (P : Type 0) → P → IfNone o P
-always_none None P p = p
-always_none (Some v) P p = tt

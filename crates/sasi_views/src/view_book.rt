@@ -7,7 +7,7 @@ ghost use Rattle.sasi_views.specs.Changes.{AreCounted, AreObsolete, Forgot, Give
 
 use crate::component::Component;
 use crate::counting::{lower_all, replace_all, take_all};
-use crate::dead::first_dead;
+use crate::dead::{first_dead, note_dead};
 use crate::known::{Known, forget};
 use crate::part::{FileList, PartList};
 use crate::view::View;
@@ -15,13 +15,19 @@ use crate::{components, obsolete};
 use std::alloc::{AllocError, Global};
 use std::marker::Model;
 
+// No component is above it.
+const LAST: Component = Component::Map(u64::MAX);
+
 /// Counts for each file and each map the views that are out and list it, and keeps which of them are current. It knows a component from
 /// the view or the replacement that first lists it until `next_dead` gives it out. Each call takes O(log n) a component, where n are
-/// known, but for `next_dead` and `obsolete`.
+/// known. `next_dead` also passes components that aren't dead, each at most once between two calls of `give` or `replace`. `obsolete`
+/// looks at each.
 #[derive(Drop)]
 pub struct ViewBook {
     alloc: Global,
     known: Known,
+    // No component below it is dead, so a search for one begins here.
+    dead_from: Component,
     out: u32,
 }
 
@@ -32,6 +38,10 @@ impl Model for ViewBook {
     ghost Value = { Book };
 
     ghost coded = { coded_book };
+
+    ghost use Rattle.sasi_views.specs.inside.DeadFrom.{AreDeadFrom};
+
+    ghost invariant = { λ a. AreDeadFrom a.dead_from a.known };
 
     ghost view = { λ a. record { known = fin.from_entries a.known.entries; out = a.out } };
 }
@@ -44,11 +54,13 @@ impl ViewBook {
         ViewBook {
             alloc,
             known: Known::new(alloc),
+            dead_from: LAST,
             out: 0,
         }
     }
 
-    /// Takes a view that lists these parts. Out of memory leaves the book unchanged. A count of 2^32 - 1 counts as such.
+    /// Takes a view that lists these parts. Out of memory leaves the book unchanged. A count that has no room
+    /// for one more is taken for that.
     pub fn take(&mut self, parts: PartList) -> Result<View, AllocError>
         requires room { self.old.out < 2 ^ 16 }
         requires once { ListsOnce parts }
@@ -69,6 +81,7 @@ impl ViewBook {
         ensures { Given self.old self.new (components_of view) }
     {
         lower_all(&mut self.known, view.components());
+        note_dead(&self.known, view.components(), &mut self.dead_from);
         self.out -= 1;
     }
 
@@ -79,17 +92,23 @@ impl ViewBook {
     {
         let removed = components::components_of(self.alloc, old.as_slice())?;
         let added = components::components_of(self.alloc, new.as_slice())?;
-        replace_all(self.alloc, &mut self.known, &removed, &added)
+        replace_all(self.alloc, &mut self.known, &removed, &added)?;
+        note_dead(&self.known, &removed, &mut self.dead_from);
+        Ok(())
     }
 
     /// Gives out, and forgets, a component that isn't current and that no view lists: the first such file by name, or else the first
-    /// such map by number. Allocates nothing. It looks at each component up to that one.
+    /// such map by number. Allocates nothing.
     pub fn next_dead(&mut self) -> Option<Component>
         ensures some { IfSome result (λ gone. Forgot self.old self.new gone) }
         ensures none { IfNone result (HasNoneDead self.old × (self.new ≡ self.old)) }
     {
-        let gone = first_dead(&self.known)?;
+        let Some(gone) = first_dead(&self.known, self.dead_from) else {
+            self.dead_from = LAST;
+            return None;
+        };
         forget(&mut self.known, &gone);
+        self.dead_from = gone;
         Some(gone)
     }
 

@@ -1,15 +1,16 @@
-use Rattle.std.proofs.Common.{sym, ap, subst, ◌∙◌}
+use Rattle.std.proofs.Common.{◌≡◌, sym, ap, subst, ◌∙◌}
 use Rattle.sasi_views.specs.Books.{dead_in}
 use Rattle.sasi_views.proofs.BookChanges.{Entries, at_entry}
-use Rattle.sasi_views.proofs.DeadLaws.{AreRising, found_dead, found_least, pass_next, rise_next}
+use Rattle.sasi_views.proofs.DeadLaws.{AreRising, dead_from, entries_from, found_dead, found_least, pass_next, rise_from, rise_next}
 use Rattle.sasi_views.proofs.dead.first_dead.Goals as goal
 
 pub loop-component-init : goal.loop-component-init
 loop-component-init c =
-    let gives = c.into_iter-component-iterator.ensures.into_iter_gives in
+    let entries = c.args.known.now.entries in
+    let iter : c.into_iter-component-iterator.result ≡ entries_from c.args.from entries = c.into_iter-component-iterator.ensures.into_iter_gives ∙ c.range-component-items.ensures.between tt in
     record {
-      rise = subst AreRising (sym gives.0) gives.5;
-      dead = λ k. ap (λ (es : Entries). dead_in (at_entry es k)) (sym gives.0);
+      rise = subst AreRising (sym iter) (rise_from c.args.from entries c.range-component-items.ensures.ordered);
+      dead = λ k. dead_from c.args.from entries k (c.requires k) ∙ ap (λ (es : Entries). dead_in (at_entry es k)) (sym iter);
     }
 
 pub loop-component-preserved : goal.loop-component-preserved

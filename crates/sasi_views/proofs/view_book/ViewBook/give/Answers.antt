@@ -1,4 +1,4 @@
-use Rattle.std.proofs.Common.{◌≤◌, ◌≡◌, ◌-◌, List, arith, sym, ap, subst}
+use Rattle.std.proofs.Common.{◌≤◌, ◌≡◌, ◌-◌, List, arith, sym, ap, subst, ◌∙◌}
 use Rattle.sasi_views.specs.declared.component.Component.{Component}
 use Rattle.sasi_views.specs.Books.{Book, count_in}
 use Rattle.sasi_views.specs.Changes.{Given}
@@ -6,6 +6,7 @@ use Rattle.sasi_views.specs.Components.{lists}
 use Rattle.sasi_views.specs.inside.Steps.{each, lowered}
 use Rattle.sasi_views.specs.Parts.{components_of}
 use Rattle.sasi_views.proofs.BookChanges.{at_entry, book, counted_in, given_is}
+use Rattle.sasi_views.proofs.DeadBounds.{from_noted, given_rest}
 use Rattle.sasi_views.proofs.view_book.ViewBook.give.Goals as goal
 
 pub lower_all-requires : goal.lower_all-requires
@@ -26,3 +27,11 @@ returns c =
     (given_is old new out (out - 1) (components_of c.args.view)
     (counted_in old out c.args.self.now (components_of c.args.view) c.self.view_is c.requires.counted)
     (subst (λ (l : List Component). (k : Component) → at_entry new k ≡ each lowered l k (at_entry old k)) c.components.ensures c.lower_all.ensures) (omega (arith, some)))
+
+pub invariant_of-self : goal.invariant_of-self
+invariant_of-self c =
+    let old = c.self.inside.known in
+    let new = c.lower_all.new.known in
+    from_noted c.self.inside.dead_from c.note_dead.new.from old new c.components-2.result.now c.note_dead.ensures.kept c.note_dead.ensures.noted c.self.invariant
+    (given_rest old new c.components-2.result.now
+    (subst (λ (l : List Component). (k : Component) → at_entry new.entries k ≡ each lowered l k (at_entry old.entries k)) (c.components.ensures ∙ sym c.components-2.ensures) c.lower_all.ensures))

@@ -7,6 +7,7 @@ use Rattle.sasi_views.specs.Components.{lists}
 use Rattle.sasi_views.specs.inside.Steps.{each, learnt, raised}
 use Rattle.sasi_views.specs.Parts.{components_of}
 use Rattle.sasi_views.proofs.BookChanges.{at_entry, book, same_book, taken_is}
+use Rattle.sasi_views.proofs.DeadBounds.{from_taken}
 use Rattle.sasi_views.proofs.StepLaws.{always_err}
 use Rattle.sasi_views.proofs.view_book.ViewBook.take.Goals as goal
 
@@ -28,3 +29,6 @@ returns-clause-taken c =
 pub returns-in_err-take_all-clause-err : goal.returns-in_err-take_all-clause-err
 returns-in_err-take_all-clause-err c =
     always_err c.from_residual-in_err-take_all.result _ (same_book c.self.inside.known.entries c.take_all.new.known.entries c.self.inside.out c.in_err-take_all.ensures.err ∙ c.self.view_is)
+
+pub invariant_of-self-2 : goal.invariant_of-self-2
+invariant_of-self-2 c = from_taken c.self.inside.dead_from c.self.inside.known c.take_all.new.known c.components.result.now c.in_ok-take_all.ensures.ok c.self.invariant
