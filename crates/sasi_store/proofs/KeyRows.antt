@@ -2,7 +2,6 @@
 use Rattle.std.proofs.Common.{◌≡◌, ◌≤◌, subst, Result, Ok, Err, IfOk, None, ◌&&◌, ℕ, Bool, true, false, cond, if◌then◌else◌, T, List, [], ◌∷◌, ◌++◌, map, Option, Some, is_some, refl, sym, ap, ◌∙◌}
 use Rattle.std.proofs.lemmas.Bool.{false_from_ne_true}
 use Rattle.std.proofs.lemmas.Cmp.{tied_itself}
-use Rattle.std.proofs.lemmas.List.{append-nil}
 use Rattle.std.specs.FinMap as map_
 use Rattle.std.specs.FinMap.{find, is_sorted}
 use Rattle.std.specs.FinMap.Entries.{below_all}
@@ -86,8 +85,8 @@ pub found_printed : {E : Type 0} (query : RowQuery) (key : List ℕ) (found : Op
     → IfOk result (λ rows. (token : ℕ) → ArePrinted (rows_of query ((with_token token key, part) ∷ [])) reply_old reply rows) → IfOk result (λ rows. rows ≤ 1)
     → IfOk result (λ rows. (token : ℕ) → ArePrinted (asked_rows query (entry_found (with_token token key) found)) reply_old reply rows)
 found_printed query key found part reply_old reply (Err e) is room printed few = tt
-found_printed query key found part reply_old reply (Ok rows) is room printed few token =
-    subst (λ (o : Option Partition). ArePrinted (asked_rows query (entry_found (with_token token key) o)) reply_old reply rows) (sym is)
+found_printed query key found part reply_old reply (Ok rows) is room printed few =
+    λ token. subst (λ (o : Option Partition). ArePrinted (asked_rows query (entry_found (with_token token key) o)) reply_old reply rows) (sym is)
     (printed_once query.limit (rows_of query ((with_token token key, part) ∷ [])) reply_old reply rows room (printed token) few)
 
 pub nothing_printed : (query : RowQuery) (key : DecoratedKey) (found : Option Partition) (reply : List ℕ) → found ≡ None → ArePrinted (asked_rows query (entry_found key found)) reply reply 0

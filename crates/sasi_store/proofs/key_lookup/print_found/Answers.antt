@@ -12,7 +12,7 @@ returns-then-is_full-clause-printed g c token =
 
 pub returns-in-Some-clause-printed : goal.returns-in-Some-clause-printed
 returns-in-Some-clause-printed g c =
-    found_printed c.args.query.now c.args.key.now c.args.found.now c.in-Some.part.now c.args.reply.now c.print_row.new.reply c.print_row.result c.in-Some.is (sym c.is_full.ensures ∙ c.if-is_full.false)
+    found_printed c.args.query.now c.args.key.now c.args.found.now c.in-Some.part c.args.reply.now c.print_row.new.reply c.print_row.result c.in-Some.is (sym c.is_full.ensures ∙ c.if-is_full.false)
     c.print_row.ensures.printed c.print_row.ensures.few
 
 pub returns-in-None-clause-printed : goal.returns-in-None-clause-printed

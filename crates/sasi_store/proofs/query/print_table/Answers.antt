@@ -1,4 +1,4 @@
-use Rattle.std.proofs.Common.{Option, Err, sym, ap, subst, ◌∙◌, arith}
+use Rattle.std.proofs.Common.{◌++◌, Option, Err, sym, ap, subst, ◌∙◌, arith}
 use Rattle.std.proofs.lemmas.Result.{err_from_is_err_and}
 use Rattle.std.specs.FinMap as map_
 use Rattle.sasi_host.proofs.ChangeLaws.{then_same}
