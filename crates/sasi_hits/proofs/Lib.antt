@@ -1,0 +1,11 @@
+pub mod PairLaws
+mod HitLaws
+mod CallLaws
+mod KeyLaws
+mod Lists
+mod WordLaws
+mod OtherLaws
+mod TurnLaws
+mod OpenKeyLaws
+mod OpenHitLaws
+pub mod PartHits

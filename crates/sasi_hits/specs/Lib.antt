@@ -1,0 +1,9 @@
+pub mod Pairs
+pub mod Calls
+pub mod KeyTrees
+pub mod HitPairs
+pub mod WordSearches
+pub mod IndexHits
+pub mod MapHits
+pub mod inside
+pub mod Hits

@@ -1,0 +1,4 @@
+pub mod Rising
+pub mod Moving
+pub mod KeepingKeys
+pub mod KeepingHits
