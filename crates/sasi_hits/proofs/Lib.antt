@@ -8,4 +8,6 @@ mod OtherLaws
 mod TurnLaws
 mod OpenKeyLaws
 mod OpenHitLaws
+mod NextLaws
+mod StreamLaws
 pub mod PartHits

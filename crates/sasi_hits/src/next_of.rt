@@ -21,10 +21,10 @@ pub(crate) fn next_of<H: Host, P: PageReader>(
     floor: Token,
 ) -> Result<Option<Pair>, ReadFault>
     requires read { CanStream (P.agrees pages.old) (IsFile searches.old.first.index.file) (H.view host.old) }
-    requires open { AreOpen searches.old.first.index.file searches.old (H.view host.old).files }
+    requires ready { AreOpen searches.old.first.index.file searches.old (H.view host.old).files }
     ensures gives { (op : SpecOp) (words : List Bytes) (left : List SpecPair) → SearchesLeave op words floor searches.old (H.view host.old).files left → IfOk result (GivesPair (SearchesLeave op words floor searches.new (H.view host.new).files) left) }
     ensures reads { (op : SpecOp) (words : List Bytes) (most : ℕ) → SearchesPay op words searches.old (H.view host.old).files most → Spends (SearchesPay op words searches.new (H.view host.new).files) most (H.view host.old).reads (H.view host.new).reads result }
-    ensures open { OnOk result (AreOpen searches.old.first.index.file searches.new (H.view host.new).files) }
+    ensures ready { OnOk result (AreOpen searches.old.first.index.file searches.new (H.view host.new).files) }
     ensures read { HasStreamed (P.agrees pages.new) (P.covers pages.old) (P.covers pages.new) (IsFile searches.old.first.index.file) (IsFile searches.old.first.index.file) (H.view host.old) (H.view host.new) }
     ensures faults { StreamFaults (HitsShow searches.old.first.index.file (H.view host.old).files) (HitsShow searches.old.first.index.file (H.view host.new).files) (λ (left : List SpecPair). (op : SpecOp) × (words : List Bytes) × (floor : ℕ) × SearchesLeave op words floor searches.old (H.view host.old).files left) (H.view host.old) (H.view host.new) result }
 {
