@@ -220,7 +220,7 @@ keys_give file types floor after v left pairs found named rise is gives = by fou
 
 -- ---- the pairs of a data file rise
 
-less_before : (key q : DecoratedKey) (place at : ℕ) → place < at → decorated_cmp key q ≡ Less → is_before (record { token = key.token; place = place }) (record { token = q.token; place = at }) ≡ true
+pub less_before : (key q : DecoratedKey) (place at : ℕ) → place < at → decorated_cmp key q ≡ Less → is_before (record { token = key.token; place = place }) (record { token = q.token; place = at }) ≡ true
 less_before key q place at lt less = is_before_yes _ _ (before_by (less_token key q less))
   where
     before_by : key.token ≤ q.token → IsBefore (record { token = key.token; place = place }) (record { token = q.token; place = at })

@@ -10,4 +10,5 @@ mod OpenKeyLaws
 mod OpenHitLaws
 mod NextLaws
 mod StreamLaws
+mod MapLaws
 pub mod PartHits

@@ -151,7 +151,7 @@ module _ (v w : View) (file : FileName) (op : Op) (words : List Bytes) (index : 
     can = record {
       can = fresh_can (quiet w.files) searches.first fresh.fresh;
       floor_is = fresh.fresh.floor;
-      others = fresh_can_follow (quiet w.files) index op words searches fresh;
+      follow = fresh_can_follow (quiet w.files) index op words searches fresh;
     };
   }
 

@@ -1,12 +1,15 @@
 -- Laws of the searches of the words behind the first one.
-use Rattle.std.proofs.Common.{◌≡◌, ℕ, ◌+◌, ◌<◌, ◌≤◌, Bool, true, false, List, [], ◌∷◌, length, take, map, Option, IfErr, refl, sym, ap, subst, ◌∙◌, inl, inr, ⊎_elim, arith, Result, Ok, Err}
-use Rattle.std.specs.List.{AllByRecursion, slice_index_or, slice_set, sum_by}
+use Rattle.std.proofs.Common.{◌≡◌, ℕ, zero, suc, ◌+◌, ◌<◌, ◌≤◌, Bool, true, false, List, [], ◌∷◌, length, length-map, take, map, Option, IfErr, refl, sym, ap, subst, ◌∙◌, inl, inr, ⊎_elim, arith, Result, Ok, Err}
+use Rattle.std.proofs.lemmas.List.{take_all}
+use Rattle.std.specs.List.{AllByRecursion, slice_index_or, slice_set}
 use Rattle.sasi_types.specs.declared.tree.Pair.{Pair}
 use Rattle.sasi_host.specs.declared.name.FileName.{FileName}
 use Rattle.sasi_host.specs.declared.damage.Damage.{Damage}
 use Rattle.sasi_host.specs.declared.fault.ReadFault.{ReadFault}
 use Rattle.sasi_host.specs.Names.{Folder}
+use Rattle.sasi_host.specs.Disk.{Changes, Same}
 use Rattle.sasi_host.specs.View.{View}
+use Rattle.sasi_host.proofs.ContentLaws.{contents_same}
 use Rattle.sasi_indexwrite.specs.Content.{IndexContent}
 use Rattle.sasi_indexread.specs.Damages.{ShowsIndex}
 use Rattle.sasi_indexread.specs.Opened.{OpenIndexFile}
@@ -19,7 +22,8 @@ use Rattle.sasi_hits.specs.declared.meeting.Met.TheVariants.{All, NotAll, NoMore
 use Rattle.sasi_hits.specs.declared.word_search.WordSearch.{WordSearch}
 use Rattle.sasi_hits.specs.Calls.{IsFile, ShowsIn}
 use Rattle.sasi_hits.specs.WordSearches.{AllCanFollow, AllGive, AreFollowing, AskAgain, Asking, AsksAgain, CanFollow, EachCanFollow, From, IsFollowing, IsMet, IsMetBy, OthersOpen, OthersShow, WordOpens, WordShows, asking, is_all}
-use Rattle.sasi_hits.proofs.Lists.{all_as, all_at, all_mapped, mapped_all, open_at, open_set, show_at, show_set}
+use Rattle.sasi_hits.specs.inside.Moving.{can_moves, following_moves}
+use Rattle.sasi_hits.proofs.Lists.{all_as, all_at, all_mapped, all_more, all_set, mapped_all, open_at, open_set, show_at, show_set}
 use Rattle.sasi_hits.proofs.PairLaws.{no_both}
 
 -- ---- one of them is read on
@@ -111,4 +115,55 @@ module _ (index : OpenIndexFile) where
     covers = λ name is. ⊎_elim (λ before. inl before) (λ mine. inr (opens_file old name named mine)) (one.covers name is);
     opens = λ name is. is;
     changes = one.changes;
+  }
+
+-- ---- a call on one of them
+
+pub others_follow_at : (d : WordSearch) (v w : View) (content : IndexContent) (pair : Pair) (others : List WordSearch) (i : ℕ) (new : WordSearch) → Changes Same v w
+    → IsFollowing w content (From pair) new → AreFollowing v content (From pair) others → AreFollowing w content (From pair) (slice_set others i new)
+others_follow_at d v w content pair others i new change is all =
+    all_set d (IsFollowing v content (From pair)) (IsFollowing w content (From pair)) others i new
+    (λ word was. following_moves v w content (From pair) word (contents_same v w word.search.index.file change) was) is all
+
+pub others_can_at : (d : WordSearch) (v w : View) (others : List WordSearch) (i : ℕ) (new : WordSearch) → Changes Same v w → new.search.index ≡ (slice_index_or others i d).search.index
+    → CanFollow w (slice_index_or others i d).search.index new → EachCanFollow v others → EachCanFollow w (slice_set others i new)
+others_can_at d v w others i new change same is all =
+    all_set d (λ (word : WordSearch). CanFollow v word.search.index word) (λ (word : WordSearch). CanFollow w word.search.index word) others i new
+    (λ word was. record { can = can_moves v w word.search (contents_same v w word.search.index.file change) was.can; index_is = refl; last_is = was.last_is; floor_is = was.floor_is })
+    (record { can = is.can; index_is = refl; last_is = is.last_is; floor_is = is.floor_is }) all
+
+-- of the words the first so many give the pair, and one more
+pub met_more : (d : WordSearch) (content : IndexContent) (pair : Pair) (before others : List WordSearch) (i n : ℕ) → i < length others → n ≡ suc i → AskAgain before others
+    → IsMetBy content (slice_index_or others i d).search pair All → AllByRecursion (λ (a : Asking). is_asked_pair content a.1 pair a.2 ≡ true) (take i (map asking before))
+    → AllByRecursion (λ (a : Asking). is_asked_pair content a.1 pair a.2 ≡ true) (take n (map asking before))
+met_more d content pair before others i n lt next asked is all =
+    subst (λ (l : List Asking). AllByRecursion Gives (take n l)) asked
+    (all_more (asking d) Gives (map asking others) i n (omega (arith, lt, length-map others asking)) next
+    (subst Gives (sym (mapped_at others i)) is) (subst (λ (l : List Asking). AllByRecursion Gives (take i l)) (sym asked) all))
+  where
+    Gives : Asking → Type 0
+    Gives a = is_asked_pair content a.1 pair a.2 ≡ true
+
+    mapped_at : (others : List WordSearch) (i : ℕ) → slice_index_or (map asking others) i (asking d) ≡ asking (slice_index_or others i d)
+    mapped_at [] i = refl
+    mapped_at (word ∷ others) zero = refl
+    mapped_at (word ∷ others) (suc i) = mapped_at others i
+
+pub met_all : (content : IndexContent) (pair : Pair) (before others : List WordSearch) (i : ℕ) → length others ≤ i → AskAgain before others
+    → AllByRecursion (λ (a : Asking). is_asked_pair content a.1 pair a.2 ≡ true) (take i (map asking before)) → AllGive content before pair
+met_all content pair before others i end asked all =
+    let long : length (map asking before) ≤ i = omega (arith, ap length asked, length-map others asking, end) in
+    subst (λ (l : List Asking). AllByRecursion (λ (a : Asking). is_asked_pair content a.1 pair a.2 ≡ true) l) (take_all i (map asking before) long) all
+
+-- ---- as calls on the one file
+
+module _ (index : OpenIndexFile) where
+  pub others_faults : {T : Type 0} (v w : View) (pair : Pair) (old new : List WordSearch) (r : Result T ReadFault) → AllByRecursion (λ (word : WordSearch). word.search.index ≡ index) old → Changes Same v w
+      → StreamFaults (OthersShow v.files old) (OthersShow w.files new) (λ content. AreFollowing v content (From pair) old) v w r
+      → StreamFaults (ShowsIn index.file (ShowsIndex index) v.files) (ShowsIn index.file (ShowsIndex index) w.files) (λ content. AreFollowing v content (From pair) old) v w r
+  others_faults v w pair old new r named change one = record {
+    causes = one.causes;
+    damaged = on_err (OthersShow v.files old) (ShowsIn index.file (ShowsIndex index) v.files) r (λ damage is. shows_index index v.files old damage named is) one.damaged;
+    undamaged = one.undamaged;
+    shows = λ damage is bytes reads. is bytes (contents_same v w index.file change ∙ reads);
   }

@@ -149,11 +149,11 @@ pub can_first_on : (v w : View) (first now : Searching) (others : List WordSearc
     → CanMeet w now others
 can_first_on v w first now others change index floor can is =
     let moved = can_meet_moves v w first others (contents_same v w first.index.file change) is in
-    record { can = can; floor_is = floor ∙ is.floor_is; others = subst (λ (o : OpenIndexFile). AllCanFollow w o others) (sym index) moved.others }
+    record { can = can; floor_is = floor ∙ is.floor_is; follow = subst (λ (o : OpenIndexFile). AllCanFollow w o others) (sym index) moved.follow }
 
 pub can_others_on : (w u : View) (now : Searching) (old new : List WordSearch) → Changes Same w u → AskAgain old new → EachCanFollow u new → CanMeet w now old → CanMeet u now new
 can_others_on w u now old new change again each is = record {
   can = can_moves w u now (contents_same w u now.index.file change) is.can;
   floor_is = is.floor_is;
-  others = all_can now.index u new (indexes_again now.index old new again (indexes_are now.index w old is.others)) each;
+  follow = all_can now.index u new (indexes_again now.index old new again (indexes_are now.index w old is.follow)) each;
 }

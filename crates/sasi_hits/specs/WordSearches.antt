@@ -165,7 +165,7 @@ pub record AreSearching (v : View) (op : Op) (words : List Bytes) (first : Searc
 pub record CanMeet (v : View) (first : Searching) (others : List WordSearch) : Type 0 where
   pub can : CanSearch v first
   pub floor_is : first.merge.floor ≡ 0
-  pub others : AllCanFollow v first.index others
+  pub follow : AllCanFollow v first.index others
 
 abbrev pub words_cost : IndexContent → Searching → List WordSearch → ℕ
 words_cost content first others = cost_left first content + others_cost content others

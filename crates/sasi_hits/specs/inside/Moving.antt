@@ -48,7 +48,7 @@ module _ (a b : View) where
   unfolding open_moves
   searching_moves search content same is = record { is_open = open_moves search.index content same is.is_open; gives = is.gives }
 
-  following_moves : (content : IndexContent) (These : Pair → Type 0) (word : WordSearch) → ReadsSame word.search.index.file → IsFollowing a content These word → IsFollowing b content These word
+  pub following_moves : (content : IndexContent) (These : Pair → Type 0) (word : WordSearch) → ReadsSame word.search.index.file → IsFollowing a content These word → IsFollowing b content These word
   following_moves content These word same is = record { searching = searching_moves word.search content same is.searching; given = is.given; comes = is.comes }
 
   all_follow : (file : FileName) (content : IndexContent) (These : Pair → Type 0) (others : List WordSearch) → ReadsSame file → AllByRecursion (λ (word : WordSearch). word.search.index.file ≡ file) others
@@ -78,4 +78,4 @@ module _ (a b : View) where
   )
 
   pub can_meet_moves : (first : Searching) (others : List WordSearch) → ReadsSame first.index.file → CanMeet a first others → CanMeet b first others
-  can_meet_moves first others same is = record { can = can_moves first same is.can; floor_is = is.floor_is; others = all_can first.index others same is.others }
+  can_meet_moves first others same is = record { can = can_moves first same is.can; floor_is = is.floor_is; follow = all_can first.index others same is.follow }

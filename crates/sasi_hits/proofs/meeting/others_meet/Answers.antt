@@ -1,0 +1,33 @@
+use Rattle.std.proofs.Common.{◌≡◌, ◌∙◌, ◌<◌, ◌+◌, ◌≤◌, ap, refl, subst, sym, arith, length, true, false}
+use Rattle.std.proofs.lemmas.Result.{err_from_is_err_and}
+use Rattle.sasi_indexread.specs.Costs.{cost_left}
+use Rattle.sasi_ranges.proofs.Calling.{can_still, fails_nothing, faults_handed, faults_ok, faults_then, files_same, streamed_then, streams_nothing}
+use Rattle.sasi_hits.specs.WordSearches.{CanFollow, From, IsFollowing, others_cost}
+use Rattle.sasi_hits.specs.declared.word_search.WordSearch.{WordSearch}
+use Rattle.sasi_hits.proofs.Lists.{all_at, map_set, sum_set}
+use Rattle.sasi_hits.proofs.OtherLaws.{asking_again, can_at, faults_set, met_all, met_more, met_word, others_can_at, others_follow_at, streamed_set}
+use Rattle.sasi_hits.proofs.meeting.others_meet.Goals as goal
+
+pub loop-word-init : goal.loop-word-init
+loop-word-init g c =
+    let v = g.H.Host.view c.args.host.now in
+    record {
+      can = c.requires.read;
+      follow = c.requires.can;
+      follows = λ content all. all;
+      met = λ content all. tt;
+      pays = λ content all. omega arith;
+      read = streams_nothing _ _ _ v c.requires.read.agrees;
+      faults = fails_nothing _ _ v 0;
+      asked = refl;
+    }
+
+pub word_meets-requires-clause-read : goal.word_meets-requires-clause-read
+word_meets-requires-clause-read g c =
+    let at : c.loop-word.word-index < length c.loop-word.others = omega (arith, c.loop-word-test.true, c.loop-word.auto.others) in
+    can_at c.word-item.result _ (g.H.Host.view c.loop-word.host) c.loop-word.others c.loop-word.word-index at c.loop-word.invariant.can
+
+pub word_meets-requires-clause-can : goal.word_meets-requires-clause-can
+word_meets-requires-clause-can g c =
+    let at : c.loop-word.word-index < length c.loop-word.others = omega (arith, c.loop-word-test.true, c.loop-word.auto.others) in
+    all_at c.word-item.result (λ (word : WordSearch). CanFollow (g.H.Host.view c.loop-word.host) word.search.index word) c.loop-word.others c.loop-word.word-index at c.loop-word.invariant.follow
