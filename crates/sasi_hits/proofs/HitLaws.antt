@@ -1,18 +1,18 @@
 -- Laws of the hits that are left, as the pairs of the first word are passed.
-use Rattle.std.proofs.Common.{◌≡◌, ◌⊎◌, ℕ, ◌≤◌, ◌<◌, max, nat_le, Bool, true, false, List, [], ◌∷◌, Option, None, Some, refl, sym, ap, subst, ◌∙◌, inl, inr, ⊎_elim, arith}
+use Rattle.std.proofs.Common.{◌≡◌, ◌⊎◌, ℕ, ◌≤◌, max, true, false, List, [], ◌∷◌, Option, Some, refl, sym, ap, subst, ◌∙◌, inl, inr, ⊎_elim, arith}
 use Rattle.std.proofs.lemmas.Bool.Decides.{nat_tests}
-use Rattle.std.specs.List.{AllByRecursion, filter}
+use Rattle.std.specs.List.{filter}
 use Rattle.sasi_types.specs.declared.tree.Pair.{Pair}
 use Rattle.sasi_host.specs.Names.{Bytes}
 use Rattle.sasi_terms.specs.declared.op.Op.{Op}
 use Rattle.sasi_indexwrite.specs.Content.{IndexContent}
 use Rattle.sasi_treemerge.specs.Merges.{is_behind}
 use Rattle.sasi_treemerge.specs.Sources.{is_before}
-use Rattle.sasi_treemerge.proofs.PairOrder.{before_itself, behind_on}
+use Rattle.sasi_treemerge.proofs.PairOrder.{before_itself}
 use Rattle.sasi_hits.specs.HitPairs.{AreHits, IsHit, all_give}
-use Rattle.sasi_hits.specs.Pairs.{GivesPair, IsIn, PairsRise, is_from}
+use Rattle.sasi_hits.specs.Pairs.{is_from}
 use Rattle.sasi_hits.specs.inside.Rising.{filter_rises}
-use Rattle.sasi_hits.proofs.PairLaws.{before_one, each_of, filter_in, from_behind, from_cases, in_filter, no_both, of_all}
+use Rattle.sasi_hits.proofs.PairLaws.{before_one, behind_on, filter_in, from_cases, in_filter, no_both, of_all}
 
 module _ (content : IndexContent) (op : Op) (words : List Bytes) (floor : ℕ) where
   abbrev Hit : Option Pair → Pair → Type 0

@@ -1,7 +1,6 @@
 -- Open searches give their next hit.
-use Rattle.std.proofs.Common.{◌≡◌, ℕ, ◌+◌, ◌≤◌, List, Option, None, Some, IfOk, OnOk, refl, sym, ap, subst, ◌∙◌, arith, Result, Ok, Err}
+use Rattle.std.proofs.Common.{◌≡◌, ℕ, ◌≤◌, List, Option, None, Some, IfOk, OnOk, refl, arith, Result, Ok, Err}
 use Rattle.sasi_types.specs.declared.tree.Pair.{Pair}
-use Rattle.sasi_host.specs.declared.damage.Damage.{Damage}
 use Rattle.sasi_host.specs.declared.fault.ReadFault.{ReadFault}
 use Rattle.sasi_host.specs.Names.{Bytes, Folder}
 use Rattle.sasi_host.specs.Disk.{Changes, Same}
@@ -14,14 +13,13 @@ use Rattle.sasi_indexread.specs.HeaderAndFooter.{HasHeaderAndFooter}
 use Rattle.sasi_indexread.specs.Opened.{OpenIndexFile}
 use Rattle.sasi_indexread.specs.Searches.{Searching}
 use Rattle.sasi_ranges.specs.StreamCalls.{Spends, StreamFaults}
-use Rattle.sasi_ranges.proofs.Calling.{faults_as}
 use Rattle.sasi_hits.specs.declared.word_search.WordSearch.{WordSearch}
 use Rattle.sasi_hits.specs.Calls.{ShowsIn, quiet}
 use Rattle.sasi_hits.specs.HitPairs.{AreHits}
 use Rattle.sasi_hits.specs.IndexHits.{HitsShow, ShowsIndexFile}
 use Rattle.sasi_hits.specs.IndexHits.ShowsIndexFile.{inside}
 use Rattle.sasi_hits.specs.Pairs.{GivesPair}
-use Rattle.sasi_hits.specs.WordSearches.{AreSearching, AskedOf, CanMeet, MeetLeaves, MeetPays, words_cost}
+use Rattle.sasi_hits.specs.WordSearches.{AreSearching, CanMeet, MeetLeaves, MeetPays, words_cost}
 use Rattle.sasi_hits.specs.inside.Moving.{are_searching_move, can_meet_moves}
 use Rattle.sasi_hits.proofs.CallLaws.{faults_shown}
 

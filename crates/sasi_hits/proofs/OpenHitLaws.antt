@@ -1,14 +1,12 @@
 -- An index file is opened for the searches of some words.
-use Rattle.std.proofs.Common.{◌≡◌, ℕ, ◌+◌, ◌*◌, ◌^◌, ◌≤◌, Bool, true, false, cond, if◌then◌else◌, List, [], ◌∷◌, length, map, Option, None, Some, IfErr, refl, sym, ap, subst, ◌∙◌, arith, Result}
+use Rattle.std.proofs.Common.{◌≡◌, ℕ, ◌+◌, ◌*◌, ◌^◌, ◌≤◌, Bool, false, if◌then◌else◌, List, [], ◌∷◌, length, map, Option, None, Some, IfErr, refl, sym, ap, subst, ◌∙◌, arith, Result}
 use Rattle.std.proofs.lemmas.List.Sums.{sum_by-cons}
-use Rattle.std.specs.List.{AllByRecursion, sum_by}
-use Rattle.sasi_types.specs.declared.column.ColumnType.{ColumnType}
+use Rattle.std.specs.List.{AllByRecursion}
 use Rattle.sasi_types.specs.declared.tree.Pair.{Pair}
 use Rattle.sasi_host.specs.declared.name.FileName.{FileName}
-use Rattle.sasi_host.specs.declared.damage.Damage.{Damage}
 use Rattle.sasi_host.specs.declared.fault.ReadFault.{ReadFault}
 use Rattle.sasi_host.specs.Names.{Bytes}
-use Rattle.sasi_host.specs.Damages.{DamageShown, OnDamage}
+use Rattle.sasi_host.specs.Damages.{DamageShown}
 use Rattle.sasi_host.specs.Disk.{Changes, Same}
 use Rattle.sasi_host.specs.View.{ReadCost, View, contents}
 use Rattle.sasi_host.proofs.ContentLaws.{contents_same}
@@ -21,19 +19,18 @@ use Rattle.sasi_treemerge.specs.Merges.{sources_of, unread_of}
 use Rattle.sasi_indexread.specs.Costs.{cost_left, whole_cost}
 use Rattle.sasi_indexread.specs.HeaderAndFooter.{HasHeaderAndFooter, ShowsHeaderOrFooter}
 use Rattle.sasi_indexread.specs.Opened.{IsOpenOn, NoFalseIndexDamage, OpenIndexFile}
-use Rattle.sasi_indexread.specs.Searches.{IsFresh, IsSearching, Searching}
+use Rattle.sasi_indexread.specs.Searches.{Searching}
 use Rattle.sasi_indexread.proofs.Callers.{fresh_can, fresh_searches}
 use Rattle.sasi_indexread.proofs.Footers.{numbers_tell}
-use Rattle.sasi_indexread.proofs.Laws.{numbers_of}
 use Rattle.sasi_ranges.specs.StreamCalls.{StreamFaults}
 use Rattle.sasi_ranges.proofs.Calling.{on_err}
 use Rattle.sasi_hits.specs.declared.open_searches.WordSearches.{WordSearches}
 use Rattle.sasi_hits.specs.declared.word_search.WordSearch.{WordSearch}
 use Rattle.sasi_hits.specs.Calls.{ShowsIn, quiet}
 use Rattle.sasi_hits.specs.HitPairs.{AreHits}
-use Rattle.sasi_hits.specs.IndexHits.{AreFresh, AreOpen, HitsLeave, HitsPay, HitsShow, ReadsAsIndex, ShowsIndexFile, all_cost}
+use Rattle.sasi_hits.specs.IndexHits.{AreFresh, AreOpen, HitsLeave, HitsPay, HitsShow, ShowsIndexFile, all_cost}
 use Rattle.sasi_hits.specs.IndexHits.ShowsIndexFile.{outside}
-use Rattle.sasi_hits.specs.WordSearches.{AllCanFollow, AreFollowing, AreSearching, AskWords, Behind, CanFollow, IsFollowing, IsFreshWord, IsGiven, IsToCome, others_cost}
+use Rattle.sasi_hits.specs.WordSearches.{AllCanFollow, AreSearching, AskWords, Behind, CanFollow, IsFollowing, IsFreshWord, IsGiven, IsToCome, others_cost}
 use Rattle.sasi_hits.proofs.CallLaws.{faults_of}
 use Rattle.sasi_hits.proofs.Lists.{all_as}
 

@@ -1,14 +1,12 @@
 -- A data file is opened for its keys.
-use Rattle.std.proofs.Common.{◌≡◌, ℕ, ◌+◌, ◌*◌, ◌/◌, ◌^◌, ◌≤◌, min, List, [], length, drop, Option, None, Some, IfErr, refl, sym, ap, subst, ◌∙◌, arith, Result}
+use Rattle.std.proofs.Common.{◌≡◌, ℕ, ◌+◌, ◌^◌, ◌≤◌, List, [], length, Option, None, Some, IfErr, refl, sym, ap, subst, ◌∙◌, arith, Result}
 use Rattle.sasi_types.specs.declared.column.ColumnType.{ColumnType}
 use Rattle.sasi_types.specs.declared.tree.Pair.{Pair}
-use Rattle.sasi_types.specs.declared.tree.TreeRef.{TreeRef}
 use Rattle.sasi_host.specs.declared.name.FileName.{FileName}
-use Rattle.sasi_host.specs.declared.damage.Damage.{Damage}
 use Rattle.sasi_host.specs.declared.fault.ReadFault.{ReadFault}
 use Rattle.sasi_host.specs.Names.{Bytes}
-use Rattle.sasi_host.specs.Buffered.{pages_of, reached}
-use Rattle.sasi_host.specs.Damages.{DamageShown, OnDamage}
+use Rattle.sasi_host.specs.Buffered.{pages_of}
+use Rattle.sasi_host.specs.Damages.{DamageShown}
 use Rattle.sasi_host.specs.Disk.{Changes, Same}
 use Rattle.sasi_host.specs.View.{ReadCost, View, contents}
 use Rattle.sasi_host.proofs.BufferedLaws.{nothing_buffered}
@@ -28,7 +26,7 @@ use Rattle.sasi_dataread.proofs.Pairs.{has_tree}
 use Rattle.sasi_ranges.specs.StreamCalls.{StreamFaults}
 use Rattle.sasi_ranges.proofs.Calling.{on_err}
 use Rattle.sasi_hits.specs.Calls.{ShowsIn}
-use Rattle.sasi_hits.specs.KeyTrees.{KeysPay, KeysShow, ReadsAsData, ScanLeaves, ScanPays, ScansKeys, ShowsKeyTree, TreeLeaves}
+use Rattle.sasi_hits.specs.KeyTrees.{KeysPay, KeysShow, ReadsAsData, ScansKeys, ShowsKeyTree, TreeLeaves}
 use Rattle.sasi_hits.specs.KeyTrees.ShowsKeyTree.{outside}
 use Rattle.sasi_hits.proofs.CallLaws.{faults_of}
 

@@ -1,12 +1,12 @@
 -- Laws of pairs that rise.
-use Rattle.std.proofs.Common.{◌≡◌, ◌⊎◌, ◌&&◌, ℕ, zero, suc, ◌+◌, ◌*◌, ◌^◌, ◌<◌, ◌≤◌, max, min, nat_le, nat_lt, Bool, true, false, cond, if◌then◌else◌, List, [], ◌∷◌, ◌++◌, length, drop, Option, None, Some, refl, sym, ap, subst, ◌∙◌, inl, inr, ⊎_elim, arith}
+use Rattle.std.proofs.Common.{◌≡◌, ◌⊎◌, ◌&&◌, ℕ, zero, suc, ◌+◌, ◌*◌, ◌^◌, ◌<◌, ◌≤◌, max, min, nat_lt, Bool, true, false, cond, if◌then◌else◌, List, [], ◌∷◌, ◌++◌, drop, Option, None, Some, refl, sym, ap, subst, ◌∙◌, inl, inr, ⊎_elim, arith}
 use Rattle.std.proofs.lemmas.Bool.Decides.{nat_tests}
 use Rattle.std.specs.List.{AllByRecursion, filter}
 use Rattle.sasi_types.specs.declared.tree.Pair.{Pair}
-use Rattle.sasi_tokentree.specs.Format.{IsRising}
+use Rattle.sasi_tokentree.specs.Format.{IsBefore, IsRising}
 use Rattle.sasi_treemerge.specs.Merges.{is_behind}
 use Rattle.sasi_treemerge.specs.Sources.{is_before}
-use Rattle.sasi_treemerge.proofs.PairOrder.{before_itself, before_yes, behind_on, is_before_yes, not_before}
+use Rattle.sasi_treemerge.proofs.PairOrder.{before_itself, before_yes, is_before_yes, not_before}
 use Rattle.sasi_ranges.specs.Entries.{from_token}
 use Rattle.sasi_hits.specs.Pairs.{IsIn, PairsRise, entries_of, is_from}
 use Rattle.sasi_hits.specs.WordSearches.{HeadRises}
@@ -19,6 +19,17 @@ pub no_both : {A : Type 0} (b : Bool) → b ≡ true → b ≡ false → A
 no_both b yes no = (let differ : true ≡ false = sym yes ∙ no in cc)
 
 -- ---- the order
+
+-- a pair behind one that comes behind the last one does, too
+pub behind_on : (last : Option Pair) (found pair : Pair) → is_behind last found ≡ true → is_before found pair ≡ true → is_behind last pair ≡ true
+behind_on None found pair first second = refl
+behind_on (Some last) found pair first second = is_before_yes last pair (both (before_yes last found first) (before_yes found pair second))
+  where
+    both : IsBefore last found → IsBefore found pair → IsBefore last pair
+    both one two = ⊎_elim
+        (λ p. ⊎_elim (λ q. inl (omega (arith, p, q))) (λ q. inl (omega (arith, p, q.0))) two)
+        (λ p. ⊎_elim (λ q. inl (omega (arith, p.0, q))) (λ q. inr (p.0 ∙ q.0, omega (arith, p.1, q.1))) two)
+        one
 
 pub chain : (a b c : Pair) → is_before a b ≡ true → is_before b c ≡ true → is_before a c ≡ true
 chain a b c first second = behind_on (Some a) b c first second

@@ -1,18 +1,18 @@
 -- For callers: what the streams leave are exactly the hits of the part.
-use Rattle.std.proofs.Common.{◌≡◌, ◌≢◌, ◌⊎◌, ◌&&◌, ◌||◌, ℕ, ◌+◌, ◌*◌, ◌≤◌, Bool, true, false, cond, nat_eq, List, [], ◌∷◌, length, length-map, map, Option, None, Some, refl, sym, ap, subst, ◌∙◌, inl, inr, ⊎_elim, arith}
+use Rattle.std.proofs.Common.{◌≡◌, ◌⊎◌, ◌&&◌, ◌||◌, ℕ, ◌+◌, ◌*◌, ◌≤◌, Bool, true, false, cond, nat_eq, List, [], ◌∷◌, length, map, None, Some, refl, sym, ap, subst, ◌∙◌, inl, inr, ⊎_elim, arith}
 use Rattle.std.proofs.lemmas.Bool.{and_parts}
+use Rattle.std.proofs.lemmas.List.{length-map}
 use Rattle.std.proofs.lemmas.List.Sums.{sum_by-cons}
 use Rattle.std.specs.List.{AllByRecursion, find, filter, list_all, list_any, sum_by, zip}
-use Rattle.std.specs.List.Sorted.{IsStrictlySortedBy}
 use Rattle.sasi_types.specs.declared.decorated_key.DecoratedKey.{DecoratedKey}
 use Rattle.sasi_types.specs.declared.partitioner.Partitioner.{Partitioner}
 use Rattle.sasi_types.specs.declared.tree.Pair.{Pair}
-use Rattle.sasi_types.specs.DecoratedKey.{decorated_cmp}
 use Rattle.sasi_host.specs.Names.{Bytes, Folder}
 use Rattle.sasi_terms.specs.declared.op.Op.{Op}
 use Rattle.sasi_model.specs.Abbreviations.{Partitions, kind_of, types_of}
 use Rattle.sasi_model.specs.Conditions.{Search}
-use Rattle.sasi_model.specs.State.{Definition, Index, index_on}
+use Rattle.sasi_model.specs.Indexes.{index_on}
+use Rattle.sasi_model.specs.State.{Definition, Index}
 use Rattle.sasi_treemerge.specs.Sources.{is_before}
 use Rattle.sasi_datawrite.specs.Files.{IsDataFile}
 use Rattle.sasi_datawrite.specs.Format.{Content, decorated_key, header, key_pairs}
@@ -29,7 +29,7 @@ use Rattle.sasi_candidates.specs.Searches.{CanAsk, is_asked_pair, keyed, same_pa
 use Rattle.sasi_candidates.proofs.FileHits.{hit_found, search_gives}
 use Rattle.sasi_candidates.proofs.FileIndexes.{HasOwnIndexes, all_hits, file_beside}
 use Rattle.sasi_candidates.proofs.PairLists.{equal_pairs}
-use Rattle.sasi_hits.specs.HitPairs.{AreHits, IsHit, all_give}
+use Rattle.sasi_hits.specs.HitPairs.{AreHits, all_give}
 use Rattle.sasi_hits.specs.IndexHits.{all_cost}
 use Rattle.sasi_hits.specs.Pairs.{IsIn, PairsRise}
 use Rattle.sasi_hits.proofs.KeyLaws.{pairs_rise}

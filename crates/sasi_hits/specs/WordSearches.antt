@@ -1,7 +1,6 @@
 -- The searches of the words of a relation, in one index file.
 use Rattle.std.specs.Prelude.{◌≡◌, ℕ, ◌+◌, ◌<◌, ◌≤◌, ◌^◌, Bool, true, false, not, if◌then◌else◌, List, [], ◌∷◌, map, Option, None, Some}
 use Rattle.std.specs.List.{AllByRecursion, sum_by}
-use Rattle.sasi_types.specs.declared.column.ColumnType.{ColumnType}
 use Rattle.sasi_types.specs.declared.tree.Pair.{Pair}
 use Rattle.sasi_host.specs.declared.name.FileName.{FileName}
 use Rattle.sasi_host.specs.declared.damage.Damage.{Damage}

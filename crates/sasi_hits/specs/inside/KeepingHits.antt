@@ -11,9 +11,8 @@ use Rattle.sasi_ranges.specs.declared.entry.Entry.{Entry}
 use Rattle.sasi_ranges.specs.Entries.{Rises}
 use Rattle.sasi_hits.specs.declared.open_searches.WordSearches.{WordSearches}
 use Rattle.sasi_hits.specs.Calls.{IsFile, quiet}
-use Rattle.sasi_hits.specs.HitPairs.{AreHits}
 use Rattle.sasi_hits.specs.IndexHits.{AreOpen, HitEntries, HitsLeave, HitsPay, HitsReady, ReadsAsIndex, SearchesLeave, SearchesPay}
-use Rattle.sasi_hits.specs.Pairs.{PairsRise, entries_of}
+use Rattle.sasi_hits.specs.Pairs.{PairsRise}
 use Rattle.sasi_hits.specs.inside.Moving.{are_searching_move, can_meet_moves}
 use Rattle.sasi_hits.specs.inside.Rising.{entries_rise}
 

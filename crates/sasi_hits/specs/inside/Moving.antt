@@ -1,5 +1,5 @@
 -- What is known of the searches of an index file is known of each view in which the file reads the same.
-use Rattle.std.specs.Prelude.{◌≡◌, ℕ, List, [], ◌∷◌, All, Option}
+use Rattle.std.specs.Prelude.{◌≡◌, List, [], ◌∷◌}
 use Rattle.std.proofs.Common.{◌∙◌, subst, sym}
 use Rattle.std.proofs.lemmas.List.Elements.{All-weaker}
 use Rattle.std.specs.List.{AllByRecursion}
@@ -14,7 +14,7 @@ use Rattle.sasi_indexwrite.specs.Content.{IndexContent}
 use Rattle.sasi_indexread.specs.Opened.{IsOpenOn, OpenIndexFile}
 use Rattle.sasi_indexread.specs.Searches.{CanSearch, IsSearching, Searching}
 use Rattle.sasi_hits.specs.declared.word_search.WordSearch.{WordSearch}
-use Rattle.sasi_hits.specs.WordSearches.{AllCanFollow, AreFollowing, AreSearching, CanFollow, CanMeet, IsFollowing}
+use Rattle.sasi_hits.specs.WordSearches.{AllCanFollow, AreFollowing, AreSearching, CanMeet, IsFollowing}
 
 module _ (a b : View) where
   abbrev pub ReadsSame : FileName → Type 0

@@ -1,11 +1,9 @@
-use Rattle.std.proofs.Common.{◌≡◌, ◌∙◌, ◌<◌, ◌+◌, ◌≤◌, ap, refl, subst, sym, arith, length, true, false}
-use Rattle.std.proofs.lemmas.Result.{err_from_is_err_and}
-use Rattle.sasi_indexread.specs.Costs.{cost_left}
-use Rattle.sasi_ranges.proofs.Calling.{can_still, fails_nothing, faults_handed, faults_ok, faults_then, files_same, streamed_then, streams_nothing}
-use Rattle.sasi_hits.specs.WordSearches.{CanFollow, From, IsFollowing, others_cost}
+use Rattle.std.proofs.Common.{◌<◌, refl, arith, length, true}
+use Rattle.sasi_ranges.proofs.Calling.{fails_nothing, streams_nothing}
+use Rattle.sasi_hits.specs.WordSearches.{CanFollow}
 use Rattle.sasi_hits.specs.declared.word_search.WordSearch.{WordSearch}
-use Rattle.sasi_hits.proofs.Lists.{all_at, map_set, sum_set}
-use Rattle.sasi_hits.proofs.OtherLaws.{asking_again, can_at, faults_set, met_all, met_more, met_word, others_can_at, others_follow_at, streamed_set}
+use Rattle.sasi_hits.proofs.Lists.{all_at}
+use Rattle.sasi_hits.proofs.OtherLaws.{can_at}
 use Rattle.sasi_hits.proofs.meeting.others_meet.Goals as goal
 
 pub loop-word-init : goal.loop-word-init

@@ -1,19 +1,14 @@
-use Rattle.std.proofs.Common.{◌≡◌, ◌∙◌, ◌+◌, ◌≤◌, ap, refl, subst, sym, arith, Option, None, Some, true}
-use Rattle.std.specs.Prelude.{IfSome}
-use Rattle.std.proofs.lemmas.Result.{IfOk-weaker, err_from_is_err_and}
+use Rattle.std.proofs.Common.{◌∙◌, ap, subst, arith, Option}
+use Rattle.std.proofs.lemmas.Result.{err_from_is_err_and}
 use Rattle.sasi_types.specs.declared.tree.Pair.{Pair}
-use Rattle.sasi_treemerge.specs.Merges.{IsLeast, is_left, last_after}
+use Rattle.sasi_treemerge.specs.Merges.{IsLeast, last_after}
 use Rattle.sasi_indexread.specs.Asked.{asked_lists}
 use Rattle.sasi_indexread.specs.Damages.{ShowsIndex}
 use Rattle.sasi_indexread.specs.Searches.{IsSearching}
-use Rattle.sasi_ranges.proofs.Calling.{can_still, faults_as, faults_handed, faults_ok, faults_then, streamed_then}
-use Rattle.sasi_hits.specs.declared.meeting.Turn.{Turn}
-use Rattle.sasi_hits.specs.HitPairs.{AreHits}
-use Rattle.sasi_hits.specs.WordSearches.{AskedOf, Behind, TurnGives}
+use Rattle.sasi_ranges.proofs.Calling.{faults_as, faults_handed, faults_ok}
+use Rattle.sasi_hits.specs.WordSearches.{AskedOf, Behind}
 use Rattle.sasi_hits.proofs.CallLaws.{can_read, faults_of, streamed}
-use Rattle.sasi_hits.proofs.OtherLaws.{can_others, each_can, indexes_are, others_faults, streamed_others}
-use Rattle.sasi_hits.proofs.TurnLaws.{can_first_on, can_others_on, first_on, from_pair, others_on, turn_below, turn_ends, turn_met}
-use Rattle.sasi_hits.proofs.WordLaws.{left_is, next_is}
+use Rattle.sasi_hits.proofs.TurnLaws.{can_first_on, first_on, turn_ends}
 use Rattle.sasi_hits.proofs.meeting.turn.Goals as goal
 
 pub next-requires-clause-read : goal.next-requires-clause-read

@@ -1,9 +1,6 @@
-use Rattle.std.proofs.Common.{◌≡◌, ◌∙◌, ap, refl, subst, sym, arith, true, false, not}
-use Rattle.std.proofs.lemmas.Result.{err_from_is_err_and}
-use Rattle.sasi_indexread.specs.Searches.{IsSearching}
-use Rattle.sasi_ranges.proofs.Calling.{can_still, fails_nothing, faults_handed, faults_ok, faults_then, streamed_then, streams_nothing}
-use Rattle.sasi_hits.proofs.PairLaws.{rank_rises}
-use Rattle.sasi_hits.proofs.WordLaws.{asked_same, asked_then, follows_end, follows_met, follows_on, met_again}
+use Rattle.std.proofs.Common.{arith}
+use Rattle.sasi_ranges.proofs.Calling.{fails_nothing, streams_nothing}
+use Rattle.sasi_hits.proofs.WordLaws.{asked_same}
 use Rattle.sasi_hits.proofs.word_search.word_meets.Goals as goal
 
 pub pairs-init : goal.pairs-init

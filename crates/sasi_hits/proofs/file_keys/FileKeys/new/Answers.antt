@@ -1,5 +1,5 @@
 use Rattle.std.proofs.Common.{refl, sym, arith}
-use Rattle.sasi_datawrite.specs.Format.{header, key_pairs}
+use Rattle.sasi_datawrite.specs.Format.{key_pairs}
 use Rattle.sasi_hits.proofs.KeyLaws.{pairs_rise}
 use Rattle.sasi_hits.proofs.StreamLaws.{from_zero}
 use Rattle.sasi_hits.proofs.file_keys.FileKeys.new.Goals as goal

@@ -1,15 +1,12 @@
-use Rattle.std.proofs.Common.{◌≡◌, ◌∙◌, ℕ, ◌+◌, ◌≤◌, ap, refl, subst, sym, arith, List, Option, Some}
-use Rattle.std.specs.Option.{option_map}
-use Rattle.std.proofs.lemmas.Result.{err_from_is_err_and}
+use Rattle.std.proofs.Common.{◌∙◌, subst, sym, arith, Option, Some}
 use Rattle.sasi_tokentree.specs.Scans.{PairScan}
 use Rattle.sasi_ranges.specs.declared.entry.Entry.{Entry}
 use Rattle.sasi_ranges.specs.StreamCalls.{Gives}
-use Rattle.sasi_ranges.proofs.Calling.{faults_as, faults_handed, faults_ok, faults_then, spent_err, streamed_then}
-use Rattle.sasi_hits.specs.KeyTrees.{KeyEntries, KeysLeave, KeysPay, KeysReady, TreeLeaves}
-use Rattle.sasi_hits.specs.Pairs.{entry_of}
-use Rattle.sasi_hits.proofs.CallLaws.{can_read_on, streamed_on}
+use Rattle.sasi_ranges.proofs.Calling.{streamed_then}
+use Rattle.sasi_hits.specs.KeyTrees.{KeyEntries, KeysLeave, KeysReady, TreeLeaves}
+use Rattle.sasi_hits.proofs.CallLaws.{streamed_on}
 use Rattle.sasi_hits.proofs.KeyLaws.{keys_give}
-use Rattle.sasi_hits.proofs.StreamLaws.{entries_give, key_faults, scans_on}
+use Rattle.sasi_hits.proofs.StreamLaws.{entries_give}
 use Rattle.sasi_hits.proofs.file_keys.FileKeysTokenStream.next.Goals as goal
 
 pub open_keys-requires-clause-ready : goal.open_keys-requires-clause-ready

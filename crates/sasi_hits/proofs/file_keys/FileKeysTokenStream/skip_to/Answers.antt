@@ -1,4 +1,4 @@
-use Rattle.std.proofs.Common.{◌∙◌, ap, sym}
+use Rattle.std.proofs.Common.{◌∙◌, ap}
 use Rattle.std.specs.List.{filter}
 use Rattle.sasi_ranges.specs.Entries.{from_token}
 use Rattle.sasi_ranges.proofs.Calling.{streams_nothing}

@@ -1,4 +1,4 @@
-use Rattle.std.proofs.Common.{◌≡◌, ◌∙◌, ℕ, max, ap, List, Option, None, Some}
+use Rattle.std.proofs.Common.{◌∙◌, ℕ, max, ap, List, Option, None, Some}
 use Rattle.std.specs.List.{filter}
 use Rattle.sasi_types.specs.declared.tree.Pair.{Pair}
 use Rattle.sasi_host.specs.declared.name.FileName.{FileName}
@@ -8,7 +8,7 @@ use Rattle.sasi_ranges.specs.Entries.{from_token}
 use Rattle.sasi_ranges.proofs.Calling.{streams_nothing}
 use Rattle.sasi_hits.specs.declared.open_searches.WordSearches.{WordSearches}
 use Rattle.sasi_hits.specs.IndexHits.{HitsLeave}
-use Rattle.sasi_hits.specs.Pairs.{PairsRise, entries_of, is_from}
+use Rattle.sasi_hits.specs.Pairs.{PairsRise, is_from}
 use Rattle.sasi_hits.proofs.HitLaws.{hits_skip}
 use Rattle.sasi_hits.proofs.PairLaws.{skip_entries}
 use Rattle.sasi_hits.proofs.index_hits.IndexHitsTokenStream.skip_to.Goals as goal
