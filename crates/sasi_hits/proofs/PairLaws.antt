@@ -1,9 +1,9 @@
 -- Laws of pairs that rise.
-use Rattle.std.proofs.Common.{◌≡◌, ◌⊎◌, ◌&&◌, ℕ, zero, suc, ◌+◌, ◌*◌, ◌^◌, ◌<◌, ◌≤◌, max, min, nat_lt, Bool, true, false, cond, if◌then◌else◌, List, [], ◌∷◌, ◌++◌, drop, Option, None, Some, refl, sym, ap, subst, ◌∙◌, inl, inr, ⊎_elim, arith}
+use Rattle.std.proofs.Common.{◌≡◌, ◌⊎◌, ◌&&◌, ℕ, suc, ◌+◌, ◌*◌, ◌^◌, ◌<◌, ◌≤◌, max, min, nat_lt, Bool, true, false, cond, if◌then◌else◌, List, [], ◌∷◌, ◌++◌, Option, None, Some, refl, sym, ap, subst, ◌∙◌, inl, inr, ⊎_elim, arith}
 use Rattle.std.proofs.lemmas.Bool.Decides.{nat_tests}
 use Rattle.std.specs.List.{AllByRecursion, filter}
 use Rattle.sasi_types.specs.declared.tree.Pair.{Pair}
-use Rattle.sasi_tokentree.specs.Format.{IsBefore, IsRising}
+use Rattle.sasi_tokentree.specs.Format.{IsBefore}
 use Rattle.sasi_treemerge.specs.Merges.{is_behind}
 use Rattle.sasi_treemerge.specs.Sources.{is_before}
 use Rattle.sasi_treemerge.proofs.PairOrder.{before_itself, before_yes, is_before_yes, not_before}
@@ -16,7 +16,7 @@ split true = inl refl
 split false = inr refl
 
 pub no_both : {A : Type 0} (b : Bool) → b ≡ true → b ≡ false → A
-no_both b yes no = (let differ : true ≡ false = sym yes ∙ no in cc)
+no_both b is isnt = (let differ : true ≡ false = sym is ∙ isnt in cc)
 
 -- ---- the order
 
@@ -159,27 +159,6 @@ none_from test (x ∷ passed) rest none = ap (λ b. cond b (x ∷ filter test (p
 
 pub first_kept : (test : Pair → Bool) (x : Pair) (rest : List Pair) → test x ≡ true → filter test (x ∷ rest) ≡ x ∷ filter test rest
 first_kept test x rest is = ap (λ b. cond b (x ∷ filter test rest) (filter test rest)) is
-
--- ---- the pairs of a tree rise
-
-one_behind : (x : Pair) (pairs : List Pair) → IsRising (x ∷ pairs) → AllByRecursion (λ y. is_before x y ≡ true) pairs
-one_behind x [] rising = tt
-one_behind x (y ∷ ys) rising =
-    let next : is_before x y ≡ true = is_before_yes x y (rising 0 (omega arith)) in
-    (next, behind y ys next (one_behind y ys (λ index lt. rising (suc index) (omega (arith, lt)))))
-  where
-    behind : (y : Pair) (ys : List Pair) → is_before x y ≡ true → AllByRecursion (λ z. is_before y z ≡ true) ys → AllByRecursion (λ z. is_before x z ≡ true) ys
-    behind y [] next all = tt
-    behind y (z ∷ zs) next all = (chain x y z next all.0, behind y zs next all.1)
-
-pub tree_rises : (pairs : List Pair) → IsRising pairs → PairsRise pairs
-tree_rises [] rising = tt
-tree_rises (x ∷ xs) rising = (one_behind x xs rising, tree_rises xs (λ index lt. rising (suc index) (omega (arith, lt))))
-
-pub drop_rises : (n : ℕ) (pairs : List Pair) → PairsRise pairs → PairsRise (drop n pairs)
-drop_rises zero pairs rise = rise
-drop_rises (suc n) [] rise = rise
-drop_rises (suc n) (x ∷ xs) rise = drop_rises n xs rise.1
 
 -- ---- a number of a pair, by which its order is told
 

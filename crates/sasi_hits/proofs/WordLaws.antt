@@ -122,6 +122,9 @@ follows_met v content pair word come is = by word.head come is.given (λ q from 
         at true same = subst (λ (p : Pair). word_gives content word.search p ≡ true) (equal_pairs head pair same) given
         at false other = ⊎_elim (λ gives. absurd (not_given gives)) (λ no. no) (split (word_gives content word.search pair))
           where
+            from_cases_back : (head pair : Pair) → is_before pair head ≡ false → (head ≡ pair) ⊎ (is_before head pair ≡ true)
+            from_cases_back head pair isnt = ⊎_elim (λ same. inl (sym same)) (λ below. inr below) (from_cases head pair isnt)
+
             not_given : word_gives content word.search pair ≡ true → ⊥
             not_given gives =
                 let not_before : is_before pair head ≡ false = comes pair (before_itself pair) gives in
@@ -129,9 +132,6 @@ follows_met v content pair word come is = by word.head come is.given (λ q from 
                 (λ same. no_both (same_pair head pair) (ap (λ (p : Pair). same_pair p pair) same ∙ pair_itself pair) other)
                 (λ below. no_both (not (is_before head pair)) come (ap not below))
                 (from_cases_back head pair not_before)
-
-            from_cases_back : (head pair : Pair) → is_before pair head ≡ false → (head ≡ pair) ⊎ (is_before head pair ≡ true)
-            from_cases_back head pair no = ⊎_elim (λ same. inl (sym same)) (λ below. inr below) (from_cases head pair no)
 
 pub met_again : (content : IndexContent) (old new : Searching) (pair : Pair) (met : Met) → AsksAgain old new → IsMetBy content new pair met → IsMetBy content old pair met
 met_again content old new pair All asked is = sym (gives_again content old new pair asked) ∙ is

@@ -57,7 +57,6 @@ impl FileKeys {
 }
 
 impl TokenStream for FileKeys {
-    ghost use Rattle.std.specs.Prelude.{Unit};
     ghost use Rattle.sasi_hits.specs.KeyTrees.{KeyEntries, KeysPay, KeysReady};
     ghost use Rattle.sasi_hits.specs.inside.KeepingKeys.{key_entries_rise, keys_keep};
 

@@ -1,5 +1,5 @@
 // The pairs at which the words of a relation meet.
-ghost use Rattle.std.specs.Prelude.{◌≡◌, List, IfOk, OnOk};
+ghost use Rattle.std.specs.Prelude.{◌≡◌, ◌<◌, ◌^◌, List, IfOk, OnOk};
 ghost use Rattle.sasi_types.specs.declared.tree.Pair.{Pair as SpecPair};
 ghost use Rattle.sasi_host.specs.Names.{Bytes};
 ghost use Rattle.sasi_terms.specs.declared.op.Op.{Op as SpecOp};
@@ -51,7 +51,8 @@ enum Turn {
 }
 
 fn turn_of(met: Met, pair: Pair) -> Turn
-    ensures { result ≡ turn_of met pair }
+    ensures is { result ≡ turn_of met pair }
+    ensures fits { (pair.token < 2 ^ 64) × (pair.place < 2 ^ 64) }
 {
     match met {
         Met::All => Turn::Hit(pair),
@@ -86,7 +87,7 @@ fn others_meet<H: Host, P: PageReader>(
 }
 
 // Takes the next pair of the first word, and looks for it among those of the others.
-fn turn<H: Host, P: PageReader>(
+fn take_turn<H: Host, P: PageReader>(
     host: &mut H,
     pages: &mut P,
     first: &mut Search,
@@ -109,7 +110,7 @@ fn turn<H: Host, P: PageReader>(
         return Ok(Turn::Ended);
     };
     if pair.token < floor {
-        return Ok(Turn::Passed);
+        return Ok(turn_of(Met::NotAll, pair));
     }
     let met = others_meet(host, pages, others, pair)?;
     Ok(turn_of(met, pair))
@@ -134,7 +135,7 @@ pub(crate) fn next_hit<H: Host, P: PageReader>(
     ensures index { first.new.index ≡ first.old.index }
 {
     'pairs: loop {
-        match turn(host, pages, first, others, floor)? {
+        match take_turn(host, pages, first, others, floor)? {
             Turn::Hit(pair) => return Ok(Some(pair)),
             Turn::Ended => return Ok(None),
             Turn::Passed => {}

@@ -1,5 +1,5 @@
 // The search of a word behind the first one.
-ghost use Rattle.std.specs.Prelude.{◌≡◌, true, IfOk, OnOk};
+ghost use Rattle.std.specs.Prelude.{◌≡◌, ◌<◌, ◌^◌, true, IfOk, OnOk, Some};
 ghost use Rattle.sasi_treemerge.specs.Merges.{SpendsReads};
 ghost use Rattle.sasi_indexwrite.specs.Content.{IndexContent};
 ghost use Rattle.sasi_indexread.specs.Costs.{cost_left};
@@ -41,6 +41,14 @@ fn met_at(head: Option<Pair>, pair: Pair) -> Met
     }
 }
 
+// The head at a pair, whose numbers fit their fields.
+fn head_at(pair: Pair) -> Option<Pair>
+    ensures is { result ≡ Some pair }
+    ensures fits { (pair.token < 2 ^ 64) × (pair.place < 2 ^ 64) }
+{
+    Some(pair)
+}
+
 // The next pair of the search becomes the head; false at its end.
 fn advance<H: Host, P: PageReader>(
     host: &mut H,
@@ -61,7 +69,7 @@ fn advance<H: Host, P: PageReader>(
     let Some(pair) = word.search.next(host, pages)? else {
         return Ok(false);
     };
-    word.head = Some(pair);
+    word.head = head_at(pair);
     Ok(true)
 }
 

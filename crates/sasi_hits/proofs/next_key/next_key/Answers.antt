@@ -50,7 +50,7 @@ returns-in_default-clause-gives g c left is =
     let w = g.H.Host.view c.next.new.host in
     let here = c.keys.invariant.gives left is in
     let next = subst (λ (o : Option Pair). GivesPair (ScanLeaves c.next.new.self w.files) here.0 o) c.in_default.is
-    (next_leaves c.keys.tree c.next.new.self v w c.in_ok-pair.pair here.0 c.next.ensures.read.file c.next.ensures.tree c.next.ensures.read.changes c.in_ok-pair.ensures.ok here.2) in
+    (next_leaves c.keys.tree c.next.new.self v w _ here.0 c.next.ensures.read.file c.next.ensures.tree c.next.ensures.read.changes c.in_ok-pair.ensures.ok here.2) in
     gives_end c.args.floor (ScanLeaves c.next.new.self w.files) left here.0 next.0 next.1 here.1
 
 pub returns-in_default-clause-reads : goal.returns-in_default-clause-reads
@@ -72,18 +72,18 @@ returns-in_default-clause-faults g c =
     let one = call_faults (λ index. index ≡ c.keys.tree.passed) c.args.tree.now c.keys.tree v w _ _ inv.read.file inv.tree_is c.next.ensures.read.changes c.in_ok-pair.ensures.causes c.in_ok-pair.ensures.damaged c.in_ok-pair.ensures.undamaged in
     faults_ok _ _ _ _ u w _ _ (faults_then _ _ _ _ _ u v w 0 _ (λ left is. (let here = inv.gives left is in (here.0, here.2))) inv.faults one)
 
-pub returns-then-floor-token-clause-gives : goal.returns-then-floor-token-clause-gives
-returns-then-floor-token-clause-gives g c left is =
+pub returns-then-floor-pair-clause-gives : goal.returns-then-floor-pair-clause-gives
+returns-then-floor-pair-clause-gives g c left is =
     let v = g.H.Host.view c.keys.host in
     let w = g.H.Host.view c.next.new.host in
     let pair = c.in-Some.pair in
     let here = c.keys.invariant.gives left is in
     let next = subst (λ (o : Option Pair). GivesPair (ScanLeaves c.next.new.self w.files) here.0 o) c.in-Some.is
-    (next_leaves c.keys.tree c.next.new.self v w c.in_ok-pair.pair here.0 c.next.ensures.read.file c.next.ensures.tree c.next.ensures.read.changes c.in_ok-pair.ensures.ok here.2) in
-    gives_one c.args.floor (ScanLeaves c.next.new.self w.files) left here.0 next.0 pair next.1 (from_yes c.args.floor pair c.if-floor-token.true) next.2 here.1
+    (next_leaves c.keys.tree c.next.new.self v w _ here.0 c.next.ensures.read.file c.next.ensures.tree c.next.ensures.read.changes c.in_ok-pair.ensures.ok here.2) in
+    gives_one c.args.floor (ScanLeaves c.next.new.self w.files) left here.0 next.0 pair next.1 (from_yes c.args.floor pair c.if-floor-pair.true) next.2 here.1
 
-pub returns-then-floor-token-clause-reads : goal.returns-then-floor-token-clause-reads
-returns-then-floor-token-clause-reads g c most is =
+pub returns-then-floor-pair-clause-reads : goal.returns-then-floor-pair-clause-reads
+returns-then-floor-pair-clause-reads g c most is =
     let v = g.H.Host.view c.keys.host in
     let scan = c.keys.tree in
     let after = c.next.new.self in
@@ -94,11 +94,11 @@ returns-then-floor-token-clause-reads g c most is =
     (subst (λ (o : Option Pair). IsEntryBuffered after o) c.in-Some.is c.in_ok-pair.ensures.entry_buffered) c.next.ensures.causes.reads left.1 in
     (one.0, one.1, omega (arith, one.2, left.2))
 
-pub returns-then-floor-token-clause-read : goal.returns-then-floor-token-clause-read
-returns-then-floor-token-clause-read g c = reads_then _ _ _ _ _ _ _ _ _ _ _ c.keys.invariant.read c.next.ensures.read
+pub returns-then-floor-pair-clause-read : goal.returns-then-floor-pair-clause-read
+returns-then-floor-pair-clause-read g c = reads_then _ _ _ _ _ _ _ _ _ _ _ c.keys.invariant.read c.next.ensures.read
 
-pub returns-then-floor-token-clause-faults : goal.returns-then-floor-token-clause-faults
-returns-then-floor-token-clause-faults g c =
+pub returns-then-floor-pair-clause-faults : goal.returns-then-floor-pair-clause-faults
+returns-then-floor-pair-clause-faults g c =
     let u = g.H.Host.view c.args.host.now in
     let v = g.H.Host.view c.keys.host in
     let w = g.H.Host.view c.next.new.host in
@@ -128,8 +128,8 @@ keys-preserved g c =
       gives = λ left is.
           let here = inv.gives left is in
           let next = subst (λ (o : Option Pair). GivesPair (ScanLeaves after w.files) here.0 o) c.in-Some.is
-          (next_leaves scan after v w c.in_ok-pair.pair here.0 c.next.ensures.read.file c.next.ensures.tree c.next.ensures.read.changes c.in_ok-pair.ensures.ok here.2) in
-          (next.0, passed_one c.args.floor left here.0 next.0 pair next.1 (from_no c.args.floor pair c.if-floor-token.false) here.1, next.2);
+          (next_leaves scan after v w _ here.0 c.next.ensures.read.file c.next.ensures.tree c.next.ensures.read.changes c.in_ok-pair.ensures.ok here.2) in
+          (next.0, passed_one c.args.floor left here.0 next.0 pair next.1 (from_no c.args.floor pair c.if-floor-pair.false) here.1, next.2);
       pays = λ most is.
           let left = inv.pays most is in
           let paid = pays_some scan after v w left.0 pair c.next.ensures.read.file c.next.ensures.tree c.next.ensures.read.changes

@@ -55,14 +55,14 @@ returns-in_default-clause-faults g c =
     let v = g.H.Host.view c.args.host.now in
     let w = g.H.Host.view c.next.new.host in
     let search = c.args.word.now.search in
-    faults_ok _ _ _ _ v w c.in_ok-pair.pair _ (faults_of search.index.file (ShowsIndex search.index) (IsSearching v search) v w _ _ c.next.ensures.read.changes c.in_ok-pair.ensures.causes c.in_ok-pair.ensures.damaged c.in_ok-pair.ensures.undamaged)
+    faults_ok _ _ _ _ v w c.in_ok-pair.field-0 _ (faults_of search.index.file (ShowsIndex search.index) (IsSearching v search) v w _ _ c.next.ensures.read.changes c.in_ok-pair.ensures.causes c.in_ok-pair.ensures.damaged c.in_ok-pair.ensures.undamaged)
 
 pub returns-clause-gives : goal.returns-clause-gives
 returns-clause-gives g c content is =
     let search = c.args.word.now.search in
     let can = c.requires.can in
     let both = c.in_ok-pair.ensures.ok content is in (
-      advances_some content search c.args.word.now.head (Some c.in-Some.pair) c.in-Some.pair can.last_is can.floor_is refl
+      advances_some content search c.args.word.now.head c.head_at-word.result c.in-Some.pair can.last_is can.floor_is c.head_at-word.ensures.is
           (subst (λ (o : Option Pair). IsLeast (asked_lists content search.op search.body) search.merge.last search.merge.floor o) c.in-Some.is both.0),
       both.1,
     )
@@ -73,7 +73,7 @@ returns-clause-rises g c more =
     let can = c.requires.can in
     let pair = c.in-Some.pair in
     let behind : is_left search.merge.last search.merge.floor pair ≡ true = subst (λ (o : Option Pair). IfSome o (λ p. is_left search.merge.last search.merge.floor p ≡ true)) c.in-Some.is c.in_ok-pair.ensures.behind in
-    (pair, refl, subst (λ (o : Option Pair). Behind o pair) can.last_is (sym (left_is search.merge.last search.merge.floor pair can.floor_is) ∙ behind), ?, ?)
+    (pair, c.head_at-word.ensures.is, subst (λ (o : Option Pair). Behind o pair) can.last_is (sym (left_is search.merge.last search.merge.floor pair can.floor_is) ∙ behind), c.head_at-word.ensures.fits.0, c.head_at-word.ensures.fits.1)
 
 pub returns-clause-can : goal.returns-clause-can
 returns-clause-can g c =
@@ -81,7 +81,7 @@ returns-clause-can g c =
     record {
       can = c.in_ok-pair.ensures.search;
       index_is = c.next.ensures.asked.0;
-      last_is = c.in_ok-pair.ensures.last ∙ ap (last_after c.args.word.now.search.merge.last) c.in-Some.is;
+      last_is = c.in_ok-pair.ensures.last ∙ ap (last_after c.args.word.now.search.merge.last) c.in-Some.is ∙ sym c.head_at-word.ensures.is;
       floor_is = c.in_ok-pair.ensures.floor ∙ can.floor_is;
     }
 
@@ -93,4 +93,4 @@ returns-clause-faults g c =
     let v = g.H.Host.view c.args.host.now in
     let w = g.H.Host.view c.next.new.host in
     let search = c.args.word.now.search in
-    faults_ok _ _ _ _ v w c.in_ok-pair.pair _ (faults_of search.index.file (ShowsIndex search.index) (IsSearching v search) v w _ _ c.next.ensures.read.changes c.in_ok-pair.ensures.causes c.in_ok-pair.ensures.damaged c.in_ok-pair.ensures.undamaged)
+    faults_ok _ _ _ _ v w c.in_ok-pair.field-0 _ (faults_of search.index.file (ShowsIndex search.index) (IsSearching v search) v w _ _ c.next.ensures.read.changes c.in_ok-pair.ensures.causes c.in_ok-pair.ensures.damaged c.in_ok-pair.ensures.undamaged)

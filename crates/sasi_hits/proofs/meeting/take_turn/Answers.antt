@@ -9,7 +9,7 @@ use Rattle.sasi_ranges.proofs.Calling.{faults_as, faults_handed, faults_ok}
 use Rattle.sasi_hits.specs.WordSearches.{AskedOf, Behind}
 use Rattle.sasi_hits.proofs.CallLaws.{can_read, faults_of, streamed}
 use Rattle.sasi_hits.proofs.TurnLaws.{can_first_on, first_on, turn_ends}
-use Rattle.sasi_hits.proofs.meeting.turn.Goals as goal
+use Rattle.sasi_hits.proofs.meeting.take_turn.Goals as goal
 
 pub next-requires-clause-read : goal.next-requires-clause-read
 next-requires-clause-read g c = can_read _ (g.H.Host.view c.args.host.now) _ c.requires.read
