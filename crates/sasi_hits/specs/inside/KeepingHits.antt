@@ -53,6 +53,7 @@ module _ (old new : Option Folder) where
   leaves_stays file op words floor (Some searches) left same is = (is.0, searches_leave_stays op words floor searches left (subst IsSame (sym is.0) same) is.1)
 
   pays_stays : (file : FileName) (op : Op) (words : List Bytes) (searches : Option WordSearches) (most : ℕ) → IsSame file → HitsPay file op words searches old most → HitsPay file op words searches new most
+  unfolding index_stays
   pays_stays file op words None most same is = (is.0, is.1, index_stays file is.0 is.1 same is.2, is.3)
   pays_stays file op words (Some searches) most same is = (is.0, searches_pay_stays op words searches most (subst IsSame (sym is.0) same) is.1)
 

@@ -1,4 +1,4 @@
-use Rattle.std.proofs.Common.{◌∙◌, ap}
+use Rattle.std.proofs.Common.{◌∙◌, ap, sym}
 use Rattle.std.specs.List.{filter}
 use Rattle.sasi_ranges.specs.Entries.{from_token}
 use Rattle.sasi_ranges.proofs.Calling.{streams_nothing}
@@ -14,7 +14,7 @@ returns-clause-skips g c es is =
     let was = is.1 in
     let kept = filter (is_from s.floor) was.pairs in (
       filter (is_from token) kept,
-      record { pairs = was.pairs; of_tree = was.of_tree; rise = was.rise; from = floor_rises s.floor token was.pairs },
+      record { pairs = was.pairs; of_tree = was.of_tree; rise = was.rise; from = floor_rises s.floor token was.pairs ∙ ap (λ n. filter (is_from n) was.pairs) (sym c.max-self.ensures) },
       ap (from_token token) (is.2 ∙ ap (entries_of s.leaf s.part) was.from) ∙ skip_entries s.leaf s.part token kept (filter_rises (is_from s.floor) was.pairs was.rise),
     )
 

@@ -1,4 +1,4 @@
-use Rattle.std.proofs.Common.{◌∙◌, ℕ, max, ap, List, Option, None, Some}
+use Rattle.std.proofs.Common.{◌∙◌, ℕ, max, ap, subst, sym, List, Option, None, Some}
 use Rattle.std.specs.List.{filter}
 use Rattle.sasi_types.specs.declared.tree.Pair.{Pair}
 use Rattle.sasi_host.specs.declared.name.FileName.{FileName}
@@ -23,7 +23,7 @@ returns-clause-skips g c es is =
     let s = c.args.self.now in
     let token = c.args.token in
     let now = skipped s.file s.op s.words s.floor token s.searches (g.H.Host.view c.args.host.now).files is.0 is.1 in
-    (filter (is_from token) is.0, now.0, ap (from_token token) is.2 ∙ skip_entries s.leaf s.part token is.0 now.1)
+    (filter (is_from token) is.0, subst (λ (n : ℕ). HitsLeave s.file s.op s.words n s.searches (g.H.Host.view c.args.host.now).files (filter (is_from token) is.0)) (sym c.max-self.ensures) now.0, ap (from_token token) is.2 ∙ skip_entries s.leaf s.part token is.0 now.1)
 
 pub returns-clause-read : goal.returns-clause-read
 returns-clause-read g c = streams_nothing _ _ _ (g.H.Host.view c.args.host.now) c.requires.read.agrees
