@@ -73,9 +73,14 @@ module _ (d : WordSearch) where
   -- a word that doesn't give it tells of all
   pub met_word : (content : IndexContent) (pair : Pair) (before others : List WordSearch) (i : ℕ) (met : Met) → i < length others → AskAgain before others → is_all met ≡ false
       → IsMetBy content (slice_index_or others i d).search pair met → IsMet content before pair met
-  met_word content pair before others i All lt asked no is = cc
-  met_word content pair before others i NotAll lt asked no is = λ all. no_both _ (at content pair before others i lt asked all) is
-  met_word content pair before others i NoMore lt asked no is = λ later from all. no_both _ (at content later before others i lt asked all) (is later from)
+  met_word content pair before others i All lt asked isnt is = cc
+  met_word content pair before others i NotAll lt asked isnt is = λ all. no_both _ (at content pair before others i lt asked all) is
+  met_word content pair before others i NoMore lt asked isnt is = λ later from all. no_both _ (at content later before others i lt asked all) (is later from)
+
+pub met_is : (content : IndexContent) (word : WordSearch) (pair : Pair) (met : Met) → is_all met ≡ true → IsMetBy content word.search pair met → IsMetBy content word.search pair All
+met_is content word pair All is by = by
+met_is content word pair NotAll is by = cc
+met_is content word pair NoMore is by = cc
 
 -- ---- all of them are in one file
 
