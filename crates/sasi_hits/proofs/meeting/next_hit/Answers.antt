@@ -45,7 +45,7 @@ returns-in_err-take_turn-clause-reads g c op words content is =
     let file = ap (λ (o : OpenIndexFile). o.file) inv.index_is in
     let read = streamed_as_file _ _ _ v w c.args.first.now.index.file c.pairs.first.index.file file c.take_turn.ensures.read in
     let one = subst (λ (r : Result Turn ReadFault). SpendsReads v w (words_cost content c.pairs.first c.pairs.others) (words_cost content c.take_turn.new.first c.take_turn.new.others) r) c.in_err-take_turn.was
-        (c.take_turn.ensures.reads op words content (inv.searching op words content is)) in
+    (c.take_turn.ensures.reads op words content (inv.searching op words content is)) in
     rw p.1 (omega (arith, one, inv.pays op words content is))
 
 pub returns-in_err-take_turn-clause-read : goal.returns-in_err-take_turn-clause-read
@@ -243,10 +243,10 @@ pairs-preserved g c =
       meet = c.in_ok-take_turn.ensures.can;
       searching = λ op words content is. c.in_ok-take_turn.ensures.searching op words content (inv.searching op words content is);
       hits = λ op words content left is are. subst (λ (t : Turn). TurnGives (AreHits content op words c.take_turn.new.first.merge.last c.args.floor) left t) c.in-Passed.is
-    (c.in_ok-take_turn.ensures.gives op words content left (inv.searching op words content is) (inv.hits op words content left is are));
+          (c.in_ok-take_turn.ensures.gives op words content left (inv.searching op words content is) (inv.hits op words content left is are));
       pays = λ op words content is. (let one = c.in_ok-take_turn.ensures.reads op words content (inv.searching op words content is) in omega (arith, one, inv.pays op words content is));
       read = streamed_then _ _ _ _ _ _ _ _ u v w inv.read read;
       faults = faults_ok _ _ _ _ u w c.in_ok-take_turn.field-0 0 (faults_then _ _ _ _ _ u v w 0 _ (λ content is. (content, (is.0, is.1, inv.searching is.0 is.1 content is.2))) inv.faults
-    (subst (λ (o : OpenIndexFile). StreamFaults (ShowsIn o.file (ShowsIndex o) v.files) (ShowsIn o.file (ShowsIndex o) w.files) (AskedOf v c.pairs.first c.pairs.others) v w (Ok c.in_ok-take_turn.field-0)) inv.index_is c.in_ok-take_turn.ensures.faults));
+          (subst (λ (o : OpenIndexFile). StreamFaults (ShowsIn o.file (ShowsIndex o) v.files) (ShowsIn o.file (ShowsIndex o) w.files) (AskedOf v c.pairs.first c.pairs.others) v w (Ok c.in_ok-take_turn.field-0)) inv.index_is c.in_ok-take_turn.ensures.faults));
       index_is = c.take_turn.ensures.index ∙ inv.index_is;
     }

@@ -238,7 +238,7 @@ loop-word-preserved g c =
           omega (arith, sum_set d (λ (word : WordSearch). cost_left word.search content) others i new v.reads w.reads at (c.in_ok-met.ensures.reads content item.searching), inv.pays content all);
       read = streamed_then _ _ _ _ _ _ _ _ u v w inv.read read;
       faults = faults_ok _ _ _ _ u w c.in_ok-met.met 0 (faults_then _ _ _ _ _ u v w 0 _ (λ content all. (content, inv.follows content all)) inv.faults
-    (faults_set d v w pair others i new _ at (files_same v w change) asked.index c.in_ok-met.ensures.faults));
+          (faults_set d v w pair others i new _ at (files_same v w change) asked.index c.in_ok-met.ensures.faults));
       asked = map_set d asking others i new at (asking_again (slice_index_or others i d) new asked) ∙ inv.asked;
     }
 
