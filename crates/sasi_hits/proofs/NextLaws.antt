@@ -1,10 +1,12 @@
 -- Open searches give their next hit.
-use Rattle.std.proofs.Common.{◌≡◌, ℕ, ◌≤◌, List, Option, None, Some, IfOk, OnOk, refl, arith, Result, Ok, Err}
+use Rattle.std.proofs.Common.{◌≡◌, ◌∙◌, ℕ, ◌≤◌, List, [], Option, None, Some, IfOk, OnOk, refl, sym, ap, subst, arith, Result, Ok, Err}
 use Rattle.sasi_types.specs.declared.tree.Pair.{Pair}
+use Rattle.sasi_host.specs.declared.name.FileName.{FileName}
 use Rattle.sasi_host.specs.declared.fault.ReadFault.{ReadFault}
 use Rattle.sasi_host.specs.Names.{Bytes, Folder}
 use Rattle.sasi_host.specs.Disk.{Changes, Same}
 use Rattle.sasi_host.specs.View.{View, contents_in}
+use Rattle.sasi_host.proofs.ContentLaws.{contents_same}
 use Rattle.sasi_terms.specs.declared.op.Op.{Op}
 use Rattle.sasi_treemerge.specs.Merges.{SpendsReads}
 use Rattle.sasi_indexwrite.specs.Content.{IndexContent}
@@ -13,10 +15,11 @@ use Rattle.sasi_indexread.specs.HeaderAndFooter.{HasHeaderAndFooter}
 use Rattle.sasi_indexread.specs.Opened.{OpenIndexFile}
 use Rattle.sasi_indexread.specs.Searches.{Searching}
 use Rattle.sasi_ranges.specs.StreamCalls.{Spends, StreamFaults}
+use Rattle.sasi_hits.specs.declared.open_searches.WordSearches.{WordSearches}
 use Rattle.sasi_hits.specs.declared.word_search.WordSearch.{WordSearch}
 use Rattle.sasi_hits.specs.Calls.{ShowsIn, quiet}
 use Rattle.sasi_hits.specs.HitPairs.{AreHits}
-use Rattle.sasi_hits.specs.IndexHits.{HitsShow, ShowsIndexFile}
+use Rattle.sasi_hits.specs.IndexHits.{AreOpen, HitsShow, SearchesLeave, ShowsIndexFile}
 use Rattle.sasi_hits.specs.IndexHits.ShowsIndexFile.{inside}
 use Rattle.sasi_hits.specs.Pairs.{GivesPair}
 use Rattle.sasi_hits.specs.WordSearches.{AreSearching, CanMeet, MeetLeaves, MeetPays, words_cost}
@@ -37,6 +40,15 @@ meet_at v first others is = can_meet_moves (quiet v.files) v first others refl i
 
 pub meet_quiet : (v : View) (first : Searching) (others : List WordSearch) → CanMeet v first others → CanMeet (quiet v.files) first others
 meet_quiet v first others is = can_meet_moves v (quiet v.files) first others refl is
+
+-- what is known of what is left
+pub gives_as : (Left Other : List Pair → Type 0) (left : List Pair) (found : Option Pair) → ((rest : List Pair) → Left rest → Other rest) → GivesPair Left left found → GivesPair Other left found
+gives_as Left Other left None more gives = (gives.0, more [] gives.1)
+gives_as Left Other left (Some pair) more gives = (gives.0, gives.1, more gives.0 gives.2)
+
+-- they leave these hits, for some words
+abbrev pub LeaveSome : WordSearches → Option Folder → List Pair → Type 0
+LeaveSome searches files left = (op : Op) × (words : List Bytes) × (floor : ℕ) × SearchesLeave op words floor searches files left
 
 -- ---- what is given, and what it takes
 
@@ -71,3 +83,17 @@ module _ (index : OpenIndexFile) where
   hit_faults Leaves v w r change opened one =
       faults_shown index.file (ShowsIndex index) (ShowsIndexFile index.file) Leaves v w r change
       (λ damage shows bytes reads. inside index.kind (record { blocks = index.blocks; spill = index.spill }) (opened bytes reads) (shows bytes reads)) one
+
+-- ---- they are open still
+
+pub open_on : (v w : View) (file : FileName) (old new : WordSearches) (now : Searching) (others : List WordSearch) → Changes Same v w → new.first ≡ now → new.others.items ≡ others → now.index ≡ old.first.index
+    → AreOpen file old v.files → CanMeet w now others → AreOpen file new w.files
+open_on v w file old new now others change first_is others_are index is can =
+    let kept : new.first.index ≡ old.first.index = ap (λ (s : Searching). s.index) first_is ∙ index in
+    record {
+      named = ap (λ (o : OpenIndexFile). o.file) kept ∙ is.named;
+      opened = λ bytes reads.
+          subst (λ (o : OpenIndexFile). HasHeaderAndFooter bytes o.kind (record { blocks = o.blocks; spill = o.spill })) (sym kept) (is.opened bytes (sym (contents_same v w file change) ∙ reads));
+      can = subst (λ (s : Searching). CanMeet (quiet w.files) s new.others.items) (sym first_is)
+          (subst (λ (l : List WordSearch). CanMeet (quiet w.files) now l) (sym others_are) (meet_quiet w now others can));
+    }
