@@ -1,10 +1,14 @@
 -- An index file is opened for the searches of some words.
-use Rattle.std.proofs.Common.{◌≡◌, ℕ, ◌+◌, ◌*◌, ◌^◌, ◌≤◌, Bool, false, if◌then◌else◌, List, [], ◌∷◌, length, map, Option, None, Some, IfErr, refl, sym, ap, subst, ◌∙◌, arith, Result}
+use Rattle.std.proofs.Common.{◌≡◌, ℕ, ◌+◌, ◌*◌, ◌^◌, ◌<◌, ◌≤◌, Bool, false, if◌then◌else◌, List, [], ◌∷◌, ◌++◌, length, drop, get_or, map, Option, None, Some, IfErr, refl, sym, ap, subst, ◌∙◌, add-one, append_assoc, arith, Result, Ok, Err}
+use Rattle.std.proofs.Math.Seq.{drop-cons}
+use Rattle.std.proofs.lemmas.List.{append-nil, drop_all, map-append}
 use Rattle.std.proofs.lemmas.List.Sums.{sum_by-cons}
 use Rattle.std.specs.List.{AllByRecursion}
 use Rattle.sasi_types.specs.declared.tree.Pair.{Pair}
 use Rattle.sasi_host.specs.declared.name.FileName.{FileName}
+use Rattle.sasi_host.specs.declared.damage.Damage.{Damage}
 use Rattle.sasi_host.specs.declared.fault.ReadFault.{ReadFault}
+use Rattle.sasi_host.specs.declared.fault.ReadFault.TheVariants as fault
 use Rattle.sasi_host.specs.Names.{Bytes}
 use Rattle.sasi_host.specs.Damages.{DamageShown}
 use Rattle.sasi_host.specs.Disk.{Changes, Same}
@@ -33,6 +37,41 @@ use Rattle.sasi_hits.specs.IndexHits.ShowsIndexFile.{outside}
 use Rattle.sasi_hits.specs.WordSearches.{AllCanFollow, AreSearching, AskWords, Behind, CanFollow, IsFollowing, IsFreshWord, IsGiven, IsToCome, others_cost}
 use Rattle.sasi_hits.proofs.CallLaws.{faults_of}
 use Rattle.sasi_hits.proofs.Lists.{all_as}
+
+-- ---- they are begun one by one
+
+-- the searches so far, and the words that are left
+pub record HasBegun (index : OpenIndexFile) (op : Op) (words : List Bytes) (n : ℕ) (others : List WordSearch) : Type 0 where
+  pub fresh : AllByRecursion (IsFreshWord index op) others
+  pub bodies : map (λ (word : WordSearch). word.search.body) others ++ drop n words ≡ words
+
+fresh_more : (index : OpenIndexFile) (op : Op) (others : List WordSearch) (one : WordSearch) → AllByRecursion (IsFreshWord index op) others → IsFreshWord index op one
+    → AllByRecursion (IsFreshWord index op) (others ++ one ∷ [])
+fresh_more index op [] one all is = (is, tt)
+fresh_more index op (word ∷ others) one all is = (all.0, fresh_more index op others one all.1 is)
+
+pub one_begun : (index : OpenIndexFile) (op : Op) (words : List Bytes) (n : ℕ) (others new : List WordSearch) (body : Bytes) (one : WordSearch) → n < length words → body ≡ get_or words n body
+    → one.search.body ≡ body → IsFreshWord index op one → new ≡ others ++ one ∷ [] → HasBegun index op words n others → HasBegun index op words (n + 1) new
+one_begun index op words n others new body one inside is asked fresh pushed so_far =
+    let body_of : WordSearch → Bytes = λ word. word.search.body in
+    let next : drop n words ≡ body ∷ drop (n + 1) words = rw (add-one, drop-cons words n body inside, ← is) refl in
+    record {
+      fresh = subst (λ (l : List WordSearch). AllByRecursion (IsFreshWord index op) l) (sym pushed) (fresh_more index op others one so_far.fresh fresh);
+      bodies =
+          ap (λ (l : List WordSearch). map body_of l ++ drop (n + 1) words) pushed
+          ∙ ap (λ (l : List Bytes). l ++ drop (n + 1) words) (map-append body_of others (one ∷ []))
+          ∙ append_assoc (map body_of others) (one.search.body ∷ []) (drop (n + 1) words)
+          ∙ ap (λ b. map body_of others ++ b ∷ drop (n + 1) words) asked
+          ∙ ap (λ l. map body_of others ++ l) (sym next)
+          ∙ so_far.bodies;
+    }
+
+-- all of them are
+pub all_begun : (index : OpenIndexFile) (op : Op) (words : List Bytes) (n : ℕ) (others : List WordSearch) → length words ≤ n → HasBegun index op words n others
+    → map (λ (word : WordSearch). word.search.body) others ≡ words
+all_begun index op words n others end is =
+    let bodies = map (λ (word : WordSearch). word.search.body) others in
+    sym (append-nil bodies) ∙ ap (λ l. bodies ++ l) (sym (drop_all n words end)) ∙ is.bodies
 
 -- ---- nothing was read of the searches
 
@@ -166,3 +205,13 @@ opening_hit_faults v w file op words n r change causes damaged undamaged =
     (on_err (ShowsIn file (ShowsHeaderOrFooter file) v.files) (HitsShow file v.files) r (λ damage shows bytes reads. outside (shows bytes reads)) damaged)
     (on_err (λ _. (bytes : Bytes) (content : IndexContent) → contents v file ≡ Some bytes → IsIndexFile bytes content → ⊥) (λ _. (left : List Pair) → (floor : ℕ) × HitsLeave file op words floor None v.files left → ⊥) r
     (λ damage no left is. no is.1.0 is.1.1 is.1.2.reads is.1.2.index_file) undamaged)
+
+-- there was no memory for the searches
+pub faults_memory : {R T L M : Type 0} (Shown Shows : Damage → Type 0) (Leaves : L → Type 0) (Other : M → Type 0) (u v : View) (x : R) → StreamFaults Shown Shows Leaves u v (Ok x)
+    → StreamFaults {T = T} Shown Shows Other u v (Err fault.OutOfMemory)
+faults_memory Shown Shows Leaves Other u v x one = record {
+  causes = record { disk = one.causes.disk; out = one.causes.out; reads = one.causes.reads; ok = tt; failed = λ is. cc; memory = λ is. one.causes.ok; damaged = λ damage is. cc };
+  damaged = tt;
+  undamaged = tt;
+  shows = one.shows;
+}
