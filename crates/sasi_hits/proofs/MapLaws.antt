@@ -1,5 +1,7 @@
 -- The hits of a map, in their order.
-use Rattle.std.proofs.Common.{◌≡◌, ℕ, suc, ◌+◌, ◌<◌, true, List, [], ◌∷◌, ◌++◌, length, drop, map, sym, ap, ◌∙◌, arith, append_assoc, length-append}
+use Rattle.std.proofs.Common.{◌≡◌, ℕ, suc, ◌+◌, ◌<◌, ◌≤◌, true, List, [], ◌∷◌, ◌++◌, length, drop, get_or, map, refl, sym, ap, ◌∙◌, add-one, arith, append_assoc, length-append}
+use Rattle.std.proofs.Math.Seq.{drop-cons}
+use Rattle.std.proofs.lemmas.List.{append-nil, drop_all}
 use Rattle.std.specs.List.{AllByRecursion}
 use Rattle.std.specs.List.Sorted.{IsStrictlySortedBy}
 use Rattle.std.specs.declared.cmp.Ordering.TheVariants.{Less}
@@ -31,17 +33,25 @@ pub record HasPlaced (leaf part : ℕ) (keys : List DecoratedKey) (n : ℕ) (ent
   pub many : length entries ≡ n
   pub parts : entries ++ entries_of leaf part (placed n (drop n keys)) ≡ key_hits leaf part keys
 
-pub one_placed : (leaf part : ℕ) (keys : List DecoratedKey) (n next : ℕ) (entries : List Entry) (key : DecoratedKey) (rest : List DecoratedKey) → drop n keys ≡ key ∷ rest → drop next keys ≡ rest → next ≡ suc n
-    → HasPlaced leaf part keys n entries → HasPlaced leaf part keys next (entries ++ record { token = key.token; leaf = leaf; part = part; place = length entries } ∷ [])
-one_placed leaf part keys n next entries key rest here later is so_far =
+pub one_placed : (leaf part : ℕ) (keys : List DecoratedKey) (n place : ℕ) (entries new : List Entry) (key : DecoratedKey) → n < length keys → key ≡ get_or keys n key → place ≡ length entries
+    → new ≡ entries ++ record { token = key.token; leaf = leaf; part = part; place = place } ∷ [] → HasPlaced leaf part keys n entries → HasPlaced leaf part keys (n + 1) new
+one_placed leaf part keys n place entries new key inside is place_is pushed so_far =
     let e : ℕ → Entry = λ k. record { token = key.token; leaf = leaf; part = part; place = k } in
+    let rest = drop (n + 1) keys in
+    let next : drop n keys ≡ key ∷ rest = rw (add-one, drop-cons keys n key inside, ← is) refl in
+    let one_more : n + 1 ≡ suc n = omega arith in
     record {
-      many = omega (arith, so_far.many, is, length-append entries (e (length entries) ∷ []));
+      many = omega (arith, so_far.many, ap (λ (l : List Entry). length l) pushed, length-append entries (e place ∷ []));
       parts =
-          ap (λ k. (entries ++ e k ∷ []) ++ entries_of leaf part (placed next (drop next keys))) so_far.many
-          ∙ ap (λ l. (entries ++ e n ∷ []) ++ entries_of leaf part (placed next l)) later
-          ∙ ap (λ k. (entries ++ e n ∷ []) ++ entries_of leaf part (placed k rest)) is
+          ap (λ (l : List Entry). l ++ entries_of leaf part (placed (n + 1) rest)) pushed
+          ∙ ap (λ k. (entries ++ e k ∷ []) ++ entries_of leaf part (placed (n + 1) rest)) (place_is ∙ so_far.many)
+          ∙ ap (λ k. (entries ++ e n ∷ []) ++ entries_of leaf part (placed k rest)) one_more
           ∙ append_assoc entries (e n ∷ []) (entries_of leaf part (placed (suc n) rest))
-          ∙ ap (λ l. entries ++ entries_of leaf part (placed n l)) (sym here)
+          ∙ ap (λ l. entries ++ entries_of leaf part (placed n l)) (sym next)
           ∙ so_far.parts;
     }
+
+-- all of them are
+pub all_placed : (leaf part : ℕ) (keys : List DecoratedKey) (n : ℕ) (entries : List Entry) → length keys ≤ n → HasPlaced leaf part keys n entries → entries ≡ key_hits leaf part keys
+all_placed leaf part keys n entries end is =
+    sym (append-nil entries) ∙ ap (λ l. entries ++ entries_of leaf part (placed n l)) (sym (drop_all n keys end)) ∙ is.parts
