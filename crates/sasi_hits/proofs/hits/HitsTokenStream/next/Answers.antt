@@ -1,0 +1,90 @@
+use Rattle.std.proofs.Common.{sym, subst}
+use Rattle.sasi_ranges.specs.StreamCalls.{CanStream, HasStreamed, StreamFaults}
+use Rattle.sasi_hits.specs.declared.hits.Hits.{Hits}
+use Rattle.sasi_hits.specs.declared.hits.Hits.TheVariants.{Index, Keys, Map}
+use Rattle.sasi_hits.specs.Hits.{Leaves, Opens, Pays, Ready, Shows}
+use Rattle.sasi_hits.proofs.hits.HitsTokenStream.next.Goals as goal
+
+pub next-requires-clause-read : goal.next-requires-clause-read
+next-requires-clause-read g c =
+    subst (λ (s : Hits). CanStream (g.P.PageReader.agrees c.args.pages.now) (Opens s) (g.H.Host.view c.args.host.now)) c.in-Index.is c.requires.read
+
+pub next-requires-clause-ready : goal.next-requires-clause-ready
+next-requires-clause-ready g c =
+    subst (λ (s : Hits). Ready s (g.H.Host.view c.args.host.now).files) c.in-Index.is c.requires.ready
+
+pub returns-in-Index-clause-gives : goal.returns-in-Index-clause-gives
+returns-in-Index-clause-gives g c es left =
+    c.next.ensures.gives es (subst (λ (s : Hits). Leaves s (g.H.Host.view c.args.host.now).files es) c.in-Index.is left)
+
+pub returns-in-Index-clause-reads : goal.returns-in-Index-clause-reads
+returns-in-Index-clause-reads g c most pays =
+    c.next.ensures.reads most (subst (λ (s : Hits). Pays s (g.H.Host.view c.args.host.now).files most) c.in-Index.is pays)
+
+pub returns-in-Index-clause-ready : goal.returns-in-Index-clause-ready
+returns-in-Index-clause-ready g c =
+    c.next.ensures.ready
+
+pub returns-in-Index-clause-read : goal.returns-in-Index-clause-read
+returns-in-Index-clause-read g c =
+    subst (λ (s : Hits). HasStreamed (g.P.PageReader.agrees c.next.new.pages) (g.P.PageReader.covers c.args.pages.now) (g.P.PageReader.covers c.next.new.pages) (Opens s) (Opens (Index c.next.new.self)) (g.H.Host.view c.args.host.now) (g.H.Host.view c.next.new.host)) (sym c.in-Index.is) c.next.ensures.read
+
+pub returns-in-Index-clause-faults : goal.returns-in-Index-clause-faults
+returns-in-Index-clause-faults g c =
+    subst (λ (s : Hits). StreamFaults (Shows s (g.H.Host.view c.args.host.now).files) (Shows (Index c.next.new.self) (g.H.Host.view c.next.new.host).files) (Leaves s (g.H.Host.view c.args.host.now).files) (g.H.Host.view c.args.host.now) (g.H.Host.view c.next.new.host) c.next.result) (sym c.in-Index.is) c.next.ensures.faults
+
+pub next-requires-in-Keys-clause-read : goal.next-requires-in-Keys-clause-read
+next-requires-in-Keys-clause-read g c =
+    subst (λ (s : Hits). CanStream (g.P.PageReader.agrees c.args.pages.now) (Opens s) (g.H.Host.view c.args.host.now)) c.in-Keys.is c.requires.read
+
+pub next-requires-in-Keys-clause-ready : goal.next-requires-in-Keys-clause-ready
+next-requires-in-Keys-clause-ready g c =
+    subst (λ (s : Hits). Ready s (g.H.Host.view c.args.host.now).files) c.in-Keys.is c.requires.ready
+
+pub returns-in-Keys-clause-gives : goal.returns-in-Keys-clause-gives
+returns-in-Keys-clause-gives g c es left =
+    c.next-in-Keys.ensures.gives es (subst (λ (s : Hits). Leaves s (g.H.Host.view c.args.host.now).files es) c.in-Keys.is left)
+
+pub returns-in-Keys-clause-reads : goal.returns-in-Keys-clause-reads
+returns-in-Keys-clause-reads g c most pays =
+    c.next-in-Keys.ensures.reads most (subst (λ (s : Hits). Pays s (g.H.Host.view c.args.host.now).files most) c.in-Keys.is pays)
+
+pub returns-in-Keys-clause-ready : goal.returns-in-Keys-clause-ready
+returns-in-Keys-clause-ready g c =
+    c.next-in-Keys.ensures.ready
+
+pub returns-in-Keys-clause-read : goal.returns-in-Keys-clause-read
+returns-in-Keys-clause-read g c =
+    subst (λ (s : Hits). HasStreamed (g.P.PageReader.agrees c.next-in-Keys.new.pages) (g.P.PageReader.covers c.args.pages.now) (g.P.PageReader.covers c.next-in-Keys.new.pages) (Opens s) (Opens (Keys c.next-in-Keys.new.self)) (g.H.Host.view c.args.host.now) (g.H.Host.view c.next-in-Keys.new.host)) (sym c.in-Keys.is) c.next-in-Keys.ensures.read
+
+pub returns-in-Keys-clause-faults : goal.returns-in-Keys-clause-faults
+returns-in-Keys-clause-faults g c =
+    subst (λ (s : Hits). StreamFaults (Shows s (g.H.Host.view c.args.host.now).files) (Shows (Keys c.next-in-Keys.new.self) (g.H.Host.view c.next-in-Keys.new.host).files) (Leaves s (g.H.Host.view c.args.host.now).files) (g.H.Host.view c.args.host.now) (g.H.Host.view c.next-in-Keys.new.host) c.next-in-Keys.result) (sym c.in-Keys.is) c.next-in-Keys.ensures.faults
+
+pub next-requires-in-Map-clause-read : goal.next-requires-in-Map-clause-read
+next-requires-in-Map-clause-read g c =
+    subst (λ (s : Hits). CanStream (g.P.PageReader.agrees c.args.pages.now) (Opens s) (g.H.Host.view c.args.host.now)) c.in-Map.is c.requires.read
+
+pub next-requires-in-Map-clause-ready : goal.next-requires-in-Map-clause-ready
+next-requires-in-Map-clause-ready g c =
+    subst (λ (s : Hits). Ready s (g.H.Host.view c.args.host.now).files) c.in-Map.is c.requires.ready
+
+pub returns-in-Map-clause-gives : goal.returns-in-Map-clause-gives
+returns-in-Map-clause-gives g c es left =
+    c.next-in-Map.ensures.gives es (subst (λ (s : Hits). Leaves s (g.H.Host.view c.args.host.now).files es) c.in-Map.is left)
+
+pub returns-in-Map-clause-reads : goal.returns-in-Map-clause-reads
+returns-in-Map-clause-reads g c most pays =
+    c.next-in-Map.ensures.reads most (subst (λ (s : Hits). Pays s (g.H.Host.view c.args.host.now).files most) c.in-Map.is pays)
+
+pub returns-in-Map-clause-ready : goal.returns-in-Map-clause-ready
+returns-in-Map-clause-ready g c =
+    c.next-in-Map.ensures.ready
+
+pub returns-in-Map-clause-read : goal.returns-in-Map-clause-read
+returns-in-Map-clause-read g c =
+    subst (λ (s : Hits). HasStreamed (g.P.PageReader.agrees c.next-in-Map.new.pages) (g.P.PageReader.covers c.args.pages.now) (g.P.PageReader.covers c.next-in-Map.new.pages) (Opens s) (Opens (Map c.next-in-Map.new.self)) (g.H.Host.view c.args.host.now) (g.H.Host.view c.next-in-Map.new.host)) (sym c.in-Map.is) c.next-in-Map.ensures.read
+
+pub returns-in-Map-clause-faults : goal.returns-in-Map-clause-faults
+returns-in-Map-clause-faults g c =
+    subst (λ (s : Hits). StreamFaults (Shows s (g.H.Host.view c.args.host.now).files) (Shows (Map c.next-in-Map.new.self) (g.H.Host.view c.next-in-Map.new.host).files) (Leaves s (g.H.Host.view c.args.host.now).files) (g.H.Host.view c.args.host.now) (g.H.Host.view c.next-in-Map.new.host) c.next-in-Map.result) (sym c.in-Map.is) c.next-in-Map.ensures.faults
