@@ -54,21 +54,20 @@ in_pairs test pair (e ∷ es) P all has = by (test e.1) refl has (in_pairs test 
 found_in : (test : DecoratedKey → Bool) (gives : DecoratedKey → Bool) (pair : Pair) (es : List (Pair × DecoratedKey)) → AllByRecursion (λ (e : Pair × DecoratedKey). same_pair pair e.0 ≡ true → test e.1 ≡ true) es
     → list_any (λ (e : Pair × DecoratedKey). same_pair pair e.0 && gives e.1) es ≡ true → IsIn pair (pairs_of test es)
 found_in test gives pair [] all some = cc
-found_in test gives pair (e ∷ es) all some = by (same_pair pair e.0) refl some
+found_in test gives pair (e ∷ es) all some = by (same_pair pair e.0) refl some (λ among. found_in test gives pair es all.1 among)
   where
-    behind : list_any (λ (e : Pair × DecoratedKey). same_pair pair e.0 && gives e.1) es ≡ true → IsIn pair (pairs_of test (e ∷ es))
-    behind some = later (test e.1) (found_in test gives pair es all.1 some)
-      where
-        later : (b : Bool) → IsIn pair (pairs_of test es) → IsIn pair (map (λ e. e.0) (cond b (e ∷ filter (λ e. test e.1) es) (filter (λ e. test e.1) es)))
-        later true rest = inr rest
-        later false rest = rest
+    later : (b : Bool) → IsIn pair (pairs_of test es) → IsIn pair (map (λ e. e.0) (cond b (e ∷ filter (λ e. test e.1) es) (filter (λ e. test e.1) es)))
+    later true rest = inr rest
+    later false rest = rest
 
     here : same_pair pair e.0 ≡ true → IsIn pair (pairs_of test (e ∷ es))
     here same = subst (λ b. IsIn pair (map (λ e. e.0) (cond b (e ∷ filter (λ e. test e.1) es) (filter (λ e. test e.1) es)))) (sym (all.0 same)) (inl (sym (equal_pairs pair e.0 same)))
 
-    by : (b : Bool) → same_pair pair e.0 ≡ b → ((same_pair pair e.0 && gives e.1) || list_any (λ (e : Pair × DecoratedKey). same_pair pair e.0 && gives e.1) es) ≡ true → IsIn pair (pairs_of test (e ∷ es))
-    by true same some = here same
-    by false other some = behind (ap (λ b. (b && gives e.1) || list_any (λ (e : Pair × DecoratedKey). same_pair pair e.0 && gives e.1) es) (sym other) ∙ some)
+    by : (b : Bool) → same_pair pair e.0 ≡ b → ((same_pair pair e.0 && gives e.1) || list_any (λ (e : Pair × DecoratedKey). same_pair pair e.0 && gives e.1) es) ≡ true
+        → (list_any (λ (e : Pair × DecoratedKey). same_pair pair e.0 && gives e.1) es ≡ true → IsIn pair (pairs_of test es)) → IsIn pair (pairs_of test (e ∷ es))
+    by true same some rest = here same
+    by false other some rest =
+        later (test e.1) (rest (ap (λ b. (b && gives e.1) || list_any (λ (e : Pair × DecoratedKey). same_pair pair e.0 && gives e.1) es) (sym other) ∙ some))
 
 -- ---- they rise
 
