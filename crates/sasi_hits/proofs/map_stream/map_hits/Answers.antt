@@ -1,7 +1,6 @@
-use Rattle.std.proofs.Common.{◌≡◌, ◌∙◌, sym, subst, arith, List}
+use Rattle.std.proofs.Common.{◌∙◌, sym, subst, arith, List}
 use Rattle.sasi_ranges.specs.declared.entry.Entry.{Entry}
 use Rattle.sasi_ranges.specs.Entries.{Rises}
-use Rattle.sasi_hits.specs.MapHits.{key_hits}
 use Rattle.sasi_hits.proofs.MapLaws.{all_placed, key_hits_rise, one_placed}
 use Rattle.sasi_hits.proofs.map_stream.map_hits.Goals as goal
 

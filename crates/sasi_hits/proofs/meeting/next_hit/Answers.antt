@@ -1,4 +1,4 @@
-use Rattle.std.proofs.Common.{◌≡◌, ◌∙◌, ◌+◌, ◌≤◌, ap, refl, subst, arith, Ok, Result}
+use Rattle.std.proofs.Common.{◌∙◌, ap, refl, subst, arith, Ok, Result}
 use Rattle.std.proofs.lemmas.Result.{err_from_is_err_and}
 use Rattle.sasi_host.specs.declared.fault.ReadFault.{ReadFault}
 use Rattle.sasi_treemerge.specs.Merges.{SpendsReads}

@@ -1,4 +1,4 @@
-use Rattle.std.proofs.Common.{◌≡◌, ◌∙◌, ◌<◌, ◌+◌, ◌≤◌, refl, sym, subst, arith, length, true, Result}
+use Rattle.std.proofs.Common.{◌∙◌, ◌<◌, refl, sym, subst, arith, length, Result}
 use Rattle.std.specs.List.{slice_index_or}
 use Rattle.std.proofs.lemmas.Result.{err_from_is_err_and}
 use Rattle.sasi_host.specs.declared.fault.ReadFault.{ReadFault}

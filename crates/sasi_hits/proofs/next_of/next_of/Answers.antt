@@ -1,11 +1,11 @@
-use Rattle.std.proofs.Common.{◌≡◌, ℕ, List, IfOk, OnOk, refl, sym, subst, arith}
+use Rattle.std.proofs.Common.{◌≡◌, List, IfOk, OnOk, refl, sym, subst, arith}
 use Rattle.std.proofs.lemmas.List.{with_items_is}
 use Rattle.std.specs.Vec.{with_items}
 use Rattle.sasi_host.specs.Names.{Bytes}
 use Rattle.sasi_terms.specs.declared.op.Op.{Op}
 use Rattle.sasi_treemerge.specs.Merges.{SpendsReads}
 use Rattle.sasi_indexwrite.specs.Content.{IndexContent}
-use Rattle.sasi_ranges.specs.StreamCalls.{Spends, StreamFaults}
+use Rattle.sasi_ranges.specs.StreamCalls.{Spends}
 use Rattle.sasi_ranges.proofs.Calling.{faults_as, on_ok}
 use Rattle.sasi_hits.specs.declared.word_search.WordSearch.{WordSearch}
 use Rattle.sasi_hits.specs.Calls.{quiet}

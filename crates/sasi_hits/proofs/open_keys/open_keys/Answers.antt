@@ -4,7 +4,6 @@ use Rattle.sasi_tokentree.specs.Scans.{PairScan}
 use Rattle.sasi_ranges.proofs.Calling.{faults_as, faults_handed, faults_ok, streams_nothing}
 use Rattle.sasi_hits.specs.Calls.{SpendsOn}
 use Rattle.sasi_hits.specs.KeyTrees.{KeysPay, KeysReady, TreeLeaves}
-use Rattle.sasi_hits.proofs.CallLaws.{streamed}
 use Rattle.sasi_hits.proofs.OpenKeyLaws.{opened_leaves, opened_pays, opened_ready, opening_faults}
 use Rattle.sasi_hits.proofs.open_keys.open_keys.Goals as goal
 

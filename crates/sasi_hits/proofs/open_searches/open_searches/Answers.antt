@@ -1,6 +1,5 @@
-use Rattle.std.proofs.Common.{Option, None, Some, Ok, List, sym, subst, arith}
+use Rattle.std.proofs.Common.{Option, None, Some, Ok, List, subst, arith}
 use Rattle.std.proofs.lemmas.Result.{err_from_is_err_and}
-use Rattle.sasi_types.specs.declared.tree.Pair.{Pair}
 use Rattle.sasi_host.specs.Names.{Bytes}
 use Rattle.sasi_ranges.proofs.Calling.{faults_handed, faults_ok, streams_nothing}
 use Rattle.sasi_hits.specs.declared.open_searches.WordSearches.{WordSearches}

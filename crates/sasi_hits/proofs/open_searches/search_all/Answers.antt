@@ -1,4 +1,4 @@
-use Rattle.std.proofs.Common.{◌≡◌, ◌∙◌, ◌∷◌, sym, ap, List}
+use Rattle.std.proofs.Common.{◌∙◌, ◌∷◌, sym, ap, List}
 use Rattle.sasi_host.specs.Names.{Bytes}
 use Rattle.sasi_hits.proofs.open_searches.search_all.Goals as goal
 

@@ -1,4 +1,4 @@
-use Rattle.std.proofs.Common.{◌≡◌, ◌∙◌, ◌+◌, ◌≤◌, ap, refl, subst, sym, arith, Bool, true, false, Ok}
+use Rattle.std.proofs.Common.{◌∙◌, ap, refl, subst, sym, arith, Bool, true, Ok}
 use Rattle.std.proofs.lemmas.Result.{err_from_is_err_and}
 use Rattle.sasi_indexwrite.specs.Content.{IndexContent}
 use Rattle.sasi_indexread.specs.Damages.{ShowsIndex}

@@ -1,7 +1,5 @@
-use Rattle.std.proofs.Common.{◌≡◌, ◌∙◌, ℕ, ◌+◌, ◌≤◌, ap, refl, subst, sym, arith, List, Option, Some, Result, Ok}
-use Rattle.std.specs.Option.{option_map}
+use Rattle.std.proofs.Common.{◌∙◌, subst, sym, arith, Option, Some, Result}
 use Rattle.std.proofs.lemmas.Result.{err_from_is_err_and}
-use Rattle.sasi_types.specs.declared.tree.Pair.{Pair}
 use Rattle.sasi_tokentree.specs.Scans.{PairScan}
 use Rattle.sasi_host.specs.declared.fault.ReadFault.{ReadFault}
 use Rattle.sasi_ranges.specs.declared.entry.Entry.{Entry}

@@ -1,10 +1,8 @@
-use Rattle.std.proofs.Common.{◌≡◌, ◌∙◌, ℕ, ◌+◌, ◌≤◌, subst, sym, arith, List, Option, Some, Result, Ok}
+use Rattle.std.proofs.Common.{◌∙◌, subst, sym, arith, List, Option, Some, Result, Ok}
 use Rattle.std.proofs.lemmas.Result.{err_from_is_err_and}
 use Rattle.sasi_types.specs.declared.tree.Pair.{Pair}
 use Rattle.sasi_host.specs.declared.name.FileName.{FileName}
 use Rattle.sasi_host.specs.declared.fault.ReadFault.{ReadFault}
-use Rattle.sasi_host.specs.Names.{Bytes}
-use Rattle.sasi_terms.specs.declared.op.Op.{Op}
 use Rattle.sasi_ranges.specs.declared.entry.Entry.{Entry}
 use Rattle.sasi_ranges.specs.StreamCalls.{Gives, StreamFaults}
 use Rattle.sasi_ranges.proofs.Calling.{can_still, faults_handed, faults_ok, faults_then, spent_err, streamed_then}
