@@ -1,6 +1,5 @@
 -- Opened sources: they can go on, their files are listed, and they have what their files and maps have.
-use Rattle.std.proofs.Common.{◌≡◌, ◌+◌, ◌<◌, ◌≤◌, ◌&&◌, ℕ, suc, zero, Bool, true, false, T, List, [], ◌∷◌, ◌++◌, drop, length, map, take, get_or, slice_get, Option, None, Some, IsSome, refl, sym, ap, subst, ◌∙◌, arith, add-one, append_assoc}
-use Rattle.std.proofs.Math.Seq.{drop-cons}
+use Rattle.std.proofs.Common.{◌≡◌, ◌+◌, ◌<◌, ◌≤◌, ◌&&◌, ℕ, suc, zero, Bool, true, false, T, List, [], ◌∷◌, ◌++◌, drop, length, map, take, get_or, slice_get, Option, None, Some, IsSome, refl, sym, ap, subst, ◌∙◌, arith, append_assoc}
 use Rattle.std.proofs.lemmas.List.{append-nil}
 use Rattle.std.specs.List.{AllByRecursion, Contains}
 use Rattle.std.specs.FinMap as map_
@@ -13,7 +12,6 @@ use Rattle.sasi_types.specs.declared.decorated_key.DecoratedKey.{DecoratedKey}
 use Rattle.sasi_types.specs.declared.partitioner.Partitioner.{Partitioner}
 use Rattle.sasi_types.specs.DecoratedKey.{decorated_cmp}
 use Rattle.sasi_model.specs.State.{decorated}
-use Rattle.sasi_cells.proofs.Laws.Decorated.{entries_have}
 use Rattle.sasi_host.specs.declared.fault.ReadFault.{ReadFault}
 use Rattle.sasi_host.specs.declared.fault.ReadFault.TheVariants as fault
 use Rattle.sasi_host.specs.Damages.{OnDamage}
@@ -22,21 +20,22 @@ use Rattle.sasi_host.specs.Disk.{Changes, Same}
 use Rattle.sasi_host.specs.View.{IsThere, View, contents_in}
 use Rattle.sasi_datawrite.specs.Format.{Content, decorated_key}
 use Rattle.sasi_dataread.specs.Damages.{ShowsDataFile}
+use Rattle.sasi_dataread.specs.Opened.{OpenDataFile}
 use Rattle.sasi_dataread.specs.Scans.{DataScan}
 use Rattle.sasi_manifest.specs.declared.files.ListedFile.{ListedFile}
 use Rattle.sasi_memtable.specs.MemtableView.{MemtableView}
 use Rattle.sasi_merge.specs.Merging.{Head}
-use Rattle.sasi_merge.specs.Streams.{Entries, IsRising, behind, head_of}
+use Rattle.sasi_merge.specs.Streams.{Entries, IsRising, head_of}
 use Rattle.sasi_scan.specs.declared.source.Source.{Source}
 use Rattle.sasi_scan.specs.declared.source.Source.TheVariants.{File, Map}
-use Rattle.sasi_scan.specs.Parts.{AreContents, HasContent, IsOfPart, ShowsListed, entries_of, of_map, merged_parts, part_entries}
-use Rattle.sasi_scan.specs.Sources.{AreOfPart, CanStep, IsHeadOf, IsListedSource, IsSourceOf, StepsTo}
-use Rattle.sasi_scan.specs.Left.{AreLeft}
-use Rattle.sasi_scan.specs.Opening.{AreOpened, IsAdded, IsOpened, IsOpenedFile}
+use Rattle.sasi_scan.specs.Parts.{AreContents, HasContent, ShowsListed, entries_of, merged_parts, part_entries}
+use Rattle.sasi_scan.specs.Sources.{CanStep, IsHeadOf, IsListedFile, IsListedSource, IsSourceOf, StepsInFile}
+use Rattle.sasi_scan.specs.Left.{AreLeft, IsLeft}
+use Rattle.sasi_scan.specs.Opening.{AreOpened, IsAdded, IsOpened, IsOpenedFile, map_heads, map_sources}
 use Rattle.sasi_scan.specs.Scanning.{CanScan, IsScanOf, IsScanning, scan_of}
 use Rattle.sasi_scan.proofs.Costs.{damage_as, reads_same}
 use Rattle.sasi_scan.proofs.Moves.{all_at, got}
-use Rattle.sasi_scan.proofs.Steps.{map_of_part, steps_can, steps_left, steps_listed, steps_of}
+use Rattle.sasi_scan.proofs.Steps.{file_left, file_of, map_head}
 
 -- ---- one file more
 
@@ -56,18 +55,18 @@ opened_more seen types files file heads sources heads_new sources_new are added 
 
 -- ---- opened files
 
-opened_can : (seen : Option Folder) (types : List ColumnType) (files : List ListedFile) (heads : List Head) (sources : List Source) → AreOpened seen types files heads sources → CanScan seen (scan_of heads sources)
-opened_can seen types [] heads sources are =
-    subst (λ (hs : List Head). CanScan seen (scan_of hs sources)) (sym are.0) (subst (λ (ss : List Source). CanScan seen (scan_of [] ss)) (sym are.1) (record { can = tt; counted = refl }))
-opened_can seen types (f ∷ files) (h ∷ heads) (s ∷ sources) are =
-    let rest = opened_can seen types files heads sources are.1 in
-    record { can = (steps_can seen (File are.0.scan) h s are.0.steps, rest.can); counted = ap (λ n. suc n) rest.counted }
-opened_can seen types (f ∷ files) [] sources are = absurd are
-opened_can seen types (f ∷ files) (h ∷ heads) [] are = absurd are
+opened_can : (seen : Option Folder) (ms : List MemtableView) (types : List ColumnType) (files : List ListedFile) (heads : List Head) (sources : List Source) → AreOpened seen types files heads sources → CanScan seen ms (scan_of heads sources)
+opened_can seen ms types [] heads sources are =
+    subst (λ (hs : List Head). CanScan seen ms (scan_of hs sources)) (sym are.0) (subst (λ (ss : List Source). CanScan seen ms (scan_of [] ss)) (sym are.1) (record { can = tt; counted = refl }))
+opened_can seen ms types (f ∷ files) (h ∷ heads) (s ∷ sources) are =
+    let rest = opened_can seen ms types files heads sources are.1 in
+    record { can = (subst (CanStep seen ms) (sym are.0.source_is) are.0.steps.can, rest.can); counted = ap (λ n. suc n) rest.counted }
+opened_can seen ms types (f ∷ files) [] sources are = absurd are
+opened_can seen ms types (f ∷ files) (h ∷ heads) [] are = absurd are
 
 -- in any file, what they have left is of the parts
 record AllOf (types : List ColumnType) (maps : List MemtableView) (heads : List Head) (sources : List Source) : Type 0 where
-  pub sources_of : AllByRecursion (IsSourceOf types maps) sources
+  pub sources_of : AllByRecursion (IsSourceOf types) sources
   pub heads_of : AllByRecursion (IsHeadOf types maps) heads
 
 opened_of : (seen : Option Folder) (types : List ColumnType) (maps : List MemtableView) (files : List ListedFile) (heads : List Head) (sources : List Source) → AreOpened seen types files heads sources → AllOf types maps heads sources
@@ -75,8 +74,11 @@ opened_of seen types maps [] heads sources are =
     subst (λ (hs : List Head). AllOf types maps hs sources) (sym are.0) (subst (λ (ss : List Source). AllOf types maps [] ss) (sym are.1) (record { sources_of = tt; heads_of = tt }))
 opened_of seen types maps (f ∷ files) (h ∷ heads) (s ∷ sources) are =
     let rest = opened_of seen types maps files heads sources are.1 in
-    let one = steps_of seen types maps (File are.0.scan) h s are.0.steps are.0.is.types_are in
-    record { sources_of = (one.source_of_part, rest.sources_of); heads_of = (one.head_of_part, rest.heads_of) }
+    let one = are.0 in
+    record {
+      sources_of = (subst (IsSourceOf types) (sym one.source_is) (ap (λ (o : OpenDataFile). o.types) one.steps.opened ∙ one.is.types_are), rest.sources_of);
+      heads_of = (file_of seen types maps one.scan h one.next one.steps one.is.types_are, rest.heads_of);
+    }
 opened_of seen types maps (f ∷ files) [] sources are = absurd are
 opened_of seen types maps (f ∷ files) (h ∷ heads) [] are = absurd are
 
@@ -84,24 +86,25 @@ opened_listed : (seen : Option Folder) (types : List ColumnType) (all files : Li
 opened_listed seen types all [] heads sources among are = subst (AllByRecursion (IsListedSource seen all types)) (sym are.1) tt
 opened_listed seen types all (f ∷ files) (h ∷ heads) (s ∷ sources) among are =
     let one = are.0 in (
-      steps_listed seen all types (File one.scan) h s one.steps (record { file = f; listed = among.0; named = one.is.named; types_are = one.is.types_are; footer = one.is.footer }),
+      subst (IsListedSource seen all types) (sym one.source_is)
+          (subst (λ (o : OpenDataFile). IsListedFile seen all types o) (sym one.steps.opened) (record { file = f; listed = among.0; named = one.is.named; types_are = one.is.types_are; footer = one.is.footer })),
       opened_listed seen types all files heads sources among.1 are.1,
     )
 opened_listed seen types all (f ∷ files) [] sources among are = absurd are
 opened_listed seen types all (f ∷ files) (h ∷ heads) [] among are = absurd are
 
-opened_left : (seen : Option Folder) (types : List ColumnType) (p : Partitioner) (files : List ListedFile) (contents : List Content) (heads : List Head) (sources : List Source) → AreContents seen p types files contents → AreOpened seen types files heads sources → AreLeft seen p heads sources (map (entries_of p) contents)
-opened_left seen types p [] [] heads sources have are =
-    subst (λ (hs : List Head). AreLeft seen p hs sources []) (sym are.0) (are.1, refl)
-opened_left seen types p (f ∷ files) (content ∷ contents) (h ∷ heads) (s ∷ sources) have are =
+opened_left : (seen : Option Folder) (ms : List MemtableView) (types : List ColumnType) (p : Partitioner) (files : List ListedFile) (contents : List Content) (heads : List Head) (sources : List Source) → AreContents seen p types files contents → AreOpened seen types files heads sources → AreLeft seen p ms heads sources (map (entries_of p) contents)
+opened_left seen ms types p [] [] heads sources have are =
+    subst (λ (hs : List Head). AreLeft seen p ms hs sources []) (sym are.0) (are.1, refl)
+opened_left seen ms types p (f ∷ files) (content ∷ contents) (h ∷ heads) (s ∷ sources) have are =
     let one = are.0 in
     let open_in = one.is.opened p content have.0 in
-    let gives = steps_left seen p (File one.scan) (entries_of p content) h s (record { content = content; is = open_in; left_is = sym (ap (λ n. entries_of p (drop n content)) one.is.begins) }) one.steps in
-    (record { head_is = gives.head_is; behind_it = gives.behind_it }, opened_left seen types p files contents heads sources have.1 are.1)
-opened_left seen types p (f ∷ files) (content ∷ contents) [] sources have are = absurd are
-opened_left seen types p (f ∷ files) (content ∷ contents) (h ∷ heads) [] have are = absurd are
-opened_left seen types p [] (content ∷ contents) heads sources have are = absurd have
-opened_left seen types p (f ∷ files) [] heads sources have are = absurd have
+    let gives = file_left seen p one.scan one.next (entries_of p content) h (record { content = content; is = open_in; left_is = sym (ap (λ n. entries_of p (drop n content)) one.is.begins) }) one.steps in
+    (subst (λ (x : Source). IsLeft seen p ms h x (entries_of p content)) (sym one.source_is) gives, opened_left seen ms types p files contents heads sources have.1 are.1)
+opened_left seen ms types p (f ∷ files) (content ∷ contents) [] sources have are = absurd are
+opened_left seen ms types p (f ∷ files) (content ∷ contents) (h ∷ heads) [] have are = absurd are
+opened_left seen ms types p [] (content ∷ contents) heads sources have are = absurd have
+opened_left seen ms types p (f ∷ files) [] heads sources have are = absurd have
 
 -- each file is one of all
 contains_first : {X : Type 0} (x : X) (xs : List X) → Contains (x ∷ xs) x
@@ -120,36 +123,43 @@ each_among (x ∷ xs) = (contains_first x xs, further xs (each_among xs))
 
 -- ---- maps
 
-abbrev pub map_heads : List MemtableView → List Head
-map_heads = map (λ (m : MemtableView). head_of (map_.entries m.partitions))
-
-abbrev pub map_sources : List MemtableView → List Source
-map_sources = map (λ (m : MemtableView). Map (behind (map_.entries m.partitions)))
-
 abbrev map_entries : List MemtableView → List Entries
 map_entries = map (λ (m : MemtableView). map_.entries m.partitions)
 
-maps_can : (seen : Option Folder) (maps : List MemtableView) → CanScan seen (scan_of (map_heads maps) (map_sources maps))
-maps_can seen [] = record { can = tt; counted = refl }
-maps_can seen (m ∷ maps) = let rest = maps_can seen maps in record { can = (tt, rest.can); counted = ap (λ n. suc n) rest.counted }
+-- what stands behind the first so many stands at that position
+first_there : {X : Type 0} (xs : List X) (n : ℕ) (x : X) (rest : List X) → drop n xs ≡ x ∷ rest → (slice_get xs n ≡ Some x) × (drop (suc n) xs ≡ rest)
+first_there [] zero x rest is = absurd (let no : [] ≡ x ∷ rest = is in cc)
+first_there [] (suc n) x rest is = absurd (let no : [] ≡ x ∷ rest = is in cc)
+first_there (y ∷ xs) zero x rest is = let same : y ≡ x = cc in let others : xs ≡ rest = cc in (ap Some same, others)
+first_there (y ∷ xs) (suc n) x rest is = first_there xs n x rest is
 
-map_of_parts : (types : List ColumnType) (all : List MemtableView) (m : MemtableView) → Contains all m → AreOfPart types all (map_.entries m.partitions)
-map_of_parts types all m among = entries_have (λ entry. IsOfPart types all entry.0.key entry.1) m.partitions (λ q part is. of_map m q among is refl)
+there_inside : {X : Type 0} (xs : List X) (n : ℕ) (x : X) → slice_get xs n ≡ Some x → n < length xs
+there_inside [] n x is = absurd (let no : None ≡ Some x = is in cc)
+there_inside (y ∷ xs) zero x is = omega arith
+there_inside (y ∷ xs) (suc n) x is = omega (arith, there_inside xs n x is)
 
-maps_of_parts : (types : List ColumnType) (all maps : List MemtableView) → AllByRecursion (λ m. Contains all m) maps → AllOf types all (map_heads maps) (map_sources maps)
-maps_of_parts types all [] among = record { sources_of = tt; heads_of = tt }
-maps_of_parts types all (m ∷ maps) among =
-    let rest = maps_of_parts types all maps among.1 in
-    let one = map_of_part types all (map_.entries m.partitions) (map_of_parts types all m among.0) in
-    record { sources_of = (one.source_of_part, rest.sources_of); heads_of = (one.head_of_part, rest.heads_of) }
+maps_can : (seen : Option Folder) (all : List MemtableView) (n : ℕ) (ms : List MemtableView) → drop n all ≡ ms → CanScan seen all (scan_of (map_heads ms) (map_sources n ms))
+maps_can seen all n [] is = record { can = tt; counted = refl }
+maps_can seen all n (m ∷ ms) is =
+    let here = first_there all n m ms is in
+    let rest = maps_can seen all (suc n) ms here.1 in
+    record { can = (there_inside all n m here.0, rest.can); counted = ap (λ k. suc k) rest.counted }
 
-maps_listed : (seen : Option Folder) (files : List ListedFile) (types : List ColumnType) (maps : List MemtableView) → AllByRecursion (IsListedSource seen files types) (map_sources maps)
-maps_listed seen files types [] = tt
-maps_listed seen files types (m ∷ maps) = (tt, maps_listed seen files types maps)
+maps_of_parts : (types : List ColumnType) (all : List MemtableView) (n : ℕ) (ms : List MemtableView) → AllByRecursion (λ m. Contains all m) ms → AllOf types all (map_heads ms) (map_sources n ms)
+maps_of_parts types all n [] among = record { sources_of = tt; heads_of = tt }
+maps_of_parts types all n (m ∷ ms) among =
+    let rest = maps_of_parts types all (suc n) ms among.1 in
+    record { sources_of = (tt, rest.sources_of); heads_of = (map_head types all m among.0, rest.heads_of) }
 
-maps_left : (seen : Option Folder) (p : Partitioner) (maps : List MemtableView) → AreLeft seen p (map_heads maps) (map_sources maps) (map_entries maps)
-maps_left seen p [] = (refl, refl)
-maps_left seen p (m ∷ maps) = (record { head_is = refl; behind_it = refl }, maps_left seen p maps)
+maps_listed : (seen : Option Folder) (files : List ListedFile) (types : List ColumnType) (n : ℕ) (ms : List MemtableView) → AllByRecursion (IsListedSource seen files types) (map_sources n ms)
+maps_listed seen files types n [] = tt
+maps_listed seen files types n (m ∷ ms) = (tt, maps_listed seen files types (suc n) ms)
+
+maps_left : (seen : Option Folder) (p : Partitioner) (all : List MemtableView) (n : ℕ) (ms : List MemtableView) → drop n all ≡ ms → AreLeft seen p all (map_heads ms) (map_sources n ms) (map_entries ms)
+maps_left seen p all n [] is = (refl, refl)
+maps_left seen p all n (m ∷ ms) is =
+    let here = first_there all n m ms is in
+    (record { m = m; there = here.0; before = []; is = refl; head_is = refl }, maps_left seen p all (suc n) ms here.1)
 
 -- ---- both
 
@@ -163,19 +173,19 @@ length_both [] ys (u ∷ us) vs first second = absurd (omega (arith, first))
 length_both (x ∷ xs) ys [] vs first second = absurd (omega (arith, first))
 length_both (x ∷ xs) ys (u ∷ us) vs first second = ap (λ n. suc n) (length_both xs ys us vs (omega (arith, first)) second)
 
-can_both : (seen : Option Folder) (heads : List Head) (sources : List Source) (heads_more : List Head) (sources_more : List Source) → CanScan seen (scan_of heads sources) → CanScan seen (scan_of heads_more sources_more) → CanScan seen (scan_of (heads ++ heads_more) (sources ++ sources_more))
-can_both seen heads sources heads_more sources_more first second = record {
-  can = all_both (CanStep seen) sources sources_more first.can second.can;
+can_both : (seen : Option Folder) (ms : List MemtableView) (heads : List Head) (sources : List Source) (heads_more : List Head) (sources_more : List Source) → CanScan seen ms (scan_of heads sources) → CanScan seen ms (scan_of heads_more sources_more) → CanScan seen ms (scan_of (heads ++ heads_more) (sources ++ sources_more))
+can_both seen ms heads sources heads_more sources_more first second = record {
+  can = all_both (CanStep seen ms) sources sources_more first.can second.can;
   counted = length_both heads heads_more sources sources_more first.counted second.counted;
 }
 
-left_both : (seen : Option Folder) (p : Partitioner) (heads : List Head) (sources : List Source) (lefts : List Entries) (heads_more : List Head) (sources_more : List Source) (lefts_more : List Entries) → AreLeft seen p heads sources lefts → AreLeft seen p heads_more sources_more lefts_more → AreLeft seen p (heads ++ heads_more) (sources ++ sources_more) (lefts ++ lefts_more)
-left_both seen p [] sources lefts heads_more sources_more lefts_more first second =
-    subst (λ (ss : List Source). AreLeft seen p heads_more (ss ++ sources_more) (lefts ++ lefts_more)) (sym first.0)
-    (subst (λ (ls : List Entries). AreLeft seen p heads_more sources_more (ls ++ lefts_more)) (sym first.1) second)
-left_both seen p (h ∷ heads) (s ∷ sources) (left ∷ lefts) heads_more sources_more lefts_more first second = (first.0, left_both seen p heads sources lefts heads_more sources_more lefts_more first.1 second)
-left_both seen p (h ∷ heads) [] lefts heads_more sources_more lefts_more first second = absurd first
-left_both seen p (h ∷ heads) (s ∷ sources) [] heads_more sources_more lefts_more first second = absurd first
+left_both : (seen : Option Folder) (p : Partitioner) (ms : List MemtableView) (heads : List Head) (sources : List Source) (lefts : List Entries) (heads_more : List Head) (sources_more : List Source) (lefts_more : List Entries) → AreLeft seen p ms heads sources lefts → AreLeft seen p ms heads_more sources_more lefts_more → AreLeft seen p ms (heads ++ heads_more) (sources ++ sources_more) (lefts ++ lefts_more)
+left_both seen p ms [] sources lefts heads_more sources_more lefts_more first second =
+    subst (λ (ss : List Source). AreLeft seen p ms heads_more (ss ++ sources_more) (lefts ++ lefts_more)) (sym first.0)
+    (subst (λ (ls : List Entries). AreLeft seen p ms heads_more sources_more (ls ++ lefts_more)) (sym first.1) second)
+left_both seen p ms (h ∷ heads) (s ∷ sources) (left ∷ lefts) heads_more sources_more lefts_more first second = (first.0, left_both seen p ms heads sources lefts heads_more sources_more lefts_more first.1 second)
+left_both seen p ms (h ∷ heads) [] lefts heads_more sources_more lefts_more first second = absurd first
+left_both seen p ms (h ∷ heads) (s ∷ sources) [] heads_more sources_more lefts_more first second = absurd first
 
 -- ---- they rise
 
@@ -207,30 +217,30 @@ maps_rise (m ∷ maps) = (map_.entries_sorted m.partitions, maps_rise maps)
 
 -- ---- the sources of a scan, once all are opened
 
-module _ (seen : Option Folder) (types : List ColumnType) (files : List ListedFile) (ms : List MemtableView) (heads : List Head) (sources : List Source) (heads_all : List Head) (sources_all : List Source) (opened : AreOpened seen types files heads sources) (heads_are : heads_all ≡ heads ++ map_heads ms) (sources_are : sources_all ≡ sources ++ map_sources ms) where
+module _ (seen : Option Folder) (types : List ColumnType) (files : List ListedFile) (ms : List MemtableView) (heads : List Head) (sources : List Source) (heads_all : List Head) (sources_all : List Source) (opened : AreOpened seen types files heads sources) (heads_are : heads_all ≡ heads ++ map_heads ms) (sources_are : sources_all ≡ sources ++ map_sources 0 ms) where
   -- what is true of both is true of all
-  both_are : (P : List Head → List Source → Type 0) → P (heads ++ map_heads ms) (sources ++ map_sources ms) → P heads_all sources_all
+  both_are : (P : List Head → List Source → Type 0) → P (heads ++ map_heads ms) (sources ++ map_sources 0 ms) → P heads_all sources_all
   both_are P is = subst (λ (hs : List Head). P hs sources_all) (sym heads_are) (subst (λ (ss : List Source). P (heads ++ map_heads ms) ss) (sym sources_are) is)
 
-  pub scan_can : CanScan seen (scan_of heads_all sources_all)
-  scan_can = both_are (λ hs ss. CanScan seen (scan_of hs ss)) (can_both seen heads sources (map_heads ms) (map_sources ms) (opened_can seen types files heads sources opened) (maps_can seen ms))
+  pub scan_can : CanScan seen ms (scan_of heads_all sources_all)
+  scan_can = both_are (λ hs ss. CanScan seen ms (scan_of hs ss)) (can_both seen ms heads sources (map_heads ms) (map_sources 0 ms) (opened_can seen ms types files heads sources opened) (maps_can seen ms 0 ms refl))
 
   pub scan_is_of : IsScanOf seen files types ms (scan_of heads_all sources_all)
   scan_is_of =
       let first = opened_of seen types ms files heads sources opened in
-      let second = maps_of_parts types ms ms (each_among ms) in
+      let second = maps_of_parts types ms 0 ms (each_among ms) in
       both_are (λ hs ss. IsScanOf seen files types ms (scan_of hs ss)) (record {
-        listed = all_both (IsListedSource seen files types) sources (map_sources ms) (opened_listed seen types files files heads sources (each_among files) opened) (maps_listed seen files types ms);
-        sources_of = all_both (IsSourceOf types ms) sources (map_sources ms) first.sources_of second.sources_of;
+        listed = all_both (IsListedSource seen files types) sources (map_sources 0 ms) (opened_listed seen types files files heads sources (each_among files) opened) (maps_listed seen files types 0 ms);
+        sources_of = all_both (IsSourceOf types) sources (map_sources 0 ms) first.sources_of second.sources_of;
         heads_of = all_both (IsHeadOf types ms) heads (map_heads ms) first.heads_of second.heads_of;
       })
 
   -- the whole merge is left
-  pub scan_begins : (p : Partitioner) (contents : List Content) → AreContents seen p types files contents → IsScanning seen p (scan_of heads_all sources_all) (map_.entries (merged_parts p contents ms))
+  pub scan_begins : (p : Partitioner) (contents : List Content) → AreContents seen p types files contents → IsScanning seen p ms (scan_of heads_all sources_all) (map_.entries (merged_parts p contents ms))
   scan_begins p contents have = record {
     each = part_entries p contents ms;
-    each_is = both_are (λ hs ss. AreLeft seen p hs ss (part_entries p contents ms)) (
-        left_both seen p heads sources (map (entries_of p) contents) (map_heads ms) (map_sources ms) (map_entries ms) (opened_left seen types p files contents heads sources have opened) (maps_left seen p ms));
+    each_is = both_are (λ hs ss. AreLeft seen p ms hs ss (part_entries p contents ms)) (
+        left_both seen p ms heads sources (map (entries_of p) contents) (map_heads ms) (map_sources 0 ms) (map_entries ms) (opened_left seen ms types p files contents heads sources have opened) (maps_left seen p ms 0 ms refl));
     rising = all_both IsRising (map (entries_of p) contents) (map_entries ms) (contents_rise seen p types files contents have) (maps_rise ms);
     is = refl;
   }
@@ -252,11 +262,11 @@ content_at seen p types (f ∷ files) [] at file have is = absurd have
 
 -- ---- an opened file with its first step, and reads between
 
-pub added_file : (v w : View) (types : List ColumnType) (file : ListedFile) (scan : DataScan) (head : Head) (after : Source) (heads : List Head) (sources : List Source) (heads_new : List Head) (sources_new : List Source) → Changes Same v w → IsOpenedFile v.files types file scan → StepsTo w.files (File scan) head after → heads_new ≡ heads ++ head ∷ [] → sources_new ≡ sources ++ after ∷ [] → IsAdded (IsOpened v.files types file) heads sources heads_new sources_new
-added_file v w types file scan head after heads sources heads_new sources_new change is steps heads_are sources_are = record {
+pub added_file : (v w : View) (types : List ColumnType) (file : ListedFile) (scan : DataScan) (head : Head) (next : DataScan) (heads : List Head) (sources : List Source) (heads_new : List Head) (sources_new : List Source) → Changes Same v w → IsOpenedFile v.files types file scan → StepsInFile w.files scan head next → heads_new ≡ heads ++ head ∷ [] → sources_new ≡ sources ++ File next ∷ [] → IsAdded (IsOpened v.files types file) heads sources heads_new sources_new
+added_file v w types file scan head next heads sources heads_new sources_new change is steps heads_are sources_are = record {
   head = head;
-  source = after;
-  is = record { scan = scan; is = is; steps = subst (λ (o : Option Folder). StepsTo o (File scan) head after) (reads_same v w change) steps };
+  source = File next;
+  is = record { scan = scan; next = next; is = is; steps = subst (λ (o : Option Folder). StepsInFile o scan head next) (reads_same v w change) steps; source_is = refl };
   heads_are = heads_are;
   sources_are = sources_are;
 }
@@ -308,31 +318,46 @@ opened_all seen types files at heads sources most are = subst (λ (fs : List Lis
 
 -- ---- maps, one after another
 
-module _ {X Y : Type 0} (f : X → Y) where
-  -- one more of them
-  map_next : (xs : List X) (at : ℕ) (x : X) (ys new all : List Y) → at < length xs → x ≡ get_or xs at x → new ≡ ys ++ f x ∷ [] → ys ++ map f (drop at xs) ≡ all → new ++ map f (drop (at + 1) xs) ≡ all
-  map_next xs at x ys new all inside is pushed so_far =
-      let next : drop at xs ≡ x ∷ drop (at + 1) xs = rw (add-one, drop-cons xs at x inside, ← is) refl in
-      ap (λ (l : List Y). l ++ map f (drop (at + 1) xs)) pushed ∙ append_assoc ys (f x ∷ []) (map f (drop (at + 1) xs)) ∙ ap (λ (l : List X). ys ++ map f l) (sym next) ∙ so_far
-
-  -- all of them
-  maps_end : (xs : List X) (at : ℕ) (ys all : List Y) → length xs ≤ at → ys ++ map f (drop at xs) ≡ all → ys ≡ all
-  maps_end xs at ys all ended so_far = sym (append-nil ys) ∙ ap (λ (l : List X). ys ++ map f l) (sym (none xs at (omega (arith, ended)))) ∙ so_far
+module _ (ms : List MemtableView) (at : ℕ) (inside : at < length ms) where
+  -- the map at a position
+  at_position : (m : MemtableView) × (drop at ms ≡ m ∷ drop (at + 1) ms) × (slice_get ms at ≡ Some m)
+  at_position = by ms at inside
     where
-      none : (zs : List X) (n : ℕ) → length zs ≤ n → drop n zs ≡ []
-      none [] zero most = refl
-      none [] (suc n) most = refl
-      none (z ∷ zs) zero most = absurd (omega (arith, most))
-      none (z ∷ zs) (suc n) most = none zs n (omega (arith, most))
+      by : (xs : List MemtableView) (n : ℕ) → n < length xs → (m : MemtableView) × (drop n xs ≡ m ∷ drop (n + 1) xs) × (slice_get xs n ≡ Some m)
+      by [] n short = absurd (omega (arith, short))
+      by (x ∷ xs) zero short = (x, refl, refl)
+      by (x ∷ xs) (suc n) short =
+          let rest = by xs n (omega (arith, short)) in
+          let later : suc n + 1 ≡ suc (n + 1) = omega arith in
+          (rest.0, rest.1 ∙ ap (λ (k : ℕ). rest.0 ∷ drop k (x ∷ xs)) (sym later), rest.2)
 
-pub map_next_head : (ms : List MemtableView) (at : ℕ) (m : MemtableView) (heads new all : List Head) → at < length ms → m ≡ get_or ms at m → new ≡ heads ++ head_of (map_.entries m.partitions) ∷ [] → heads ++ map_heads (drop at ms) ≡ all → new ++ map_heads (drop (at + 1) ms) ≡ all
-map_next_head = map_next (λ (m : MemtableView). head_of (map_.entries m.partitions))
+  pub map_next_head : (head : Head) (heads new all : List Head) → ((m : MemtableView) → slice_get ms at ≡ Some m → head ≡ head_of (map_.entries m.partitions)) → new ≡ heads ++ head ∷ [] → heads ++ map_heads (drop at ms) ≡ all → new ++ map_heads (drop (at + 1) ms) ≡ all
+  map_next_head head heads new all head_is pushed so_far =
+      let here = at_position in
+      ap (λ (l : List Head). l ++ map_heads (drop (at + 1) ms)) (pushed ∙ ap (λ (h : Head). heads ++ h ∷ []) (head_is here.0 here.2))
+      ∙ append_assoc heads (head_of (map_.entries here.0.partitions) ∷ []) (map_heads (drop (at + 1) ms))
+      ∙ ap (λ (l : List MemtableView). heads ++ map_heads l) (sym here.1)
+      ∙ so_far
 
-pub map_next_source : (ms : List MemtableView) (at : ℕ) (m : MemtableView) (sources new all : List Source) → at < length ms → m ≡ get_or ms at m → new ≡ sources ++ Map (behind (map_.entries m.partitions)) ∷ [] → sources ++ map_sources (drop at ms) ≡ all → new ++ map_sources (drop (at + 1) ms) ≡ all
-map_next_source = map_next (λ (m : MemtableView). Map (behind (map_.entries m.partitions)))
+  pub map_next_source : (sources new all : List Source) → new ≡ sources ++ Map at ∷ [] → sources ++ map_sources at (drop at ms) ≡ all → new ++ map_sources (at + 1) (drop (at + 1) ms) ≡ all
+  map_next_source sources new all pushed so_far =
+      let here = at_position in
+      let later : at + 1 ≡ suc at = omega arith in
+      ap (λ (l : List Source). l ++ map_sources (at + 1) (drop (at + 1) ms)) pushed
+      ∙ append_assoc sources (Map at ∷ []) (map_sources (at + 1) (drop (at + 1) ms))
+      ∙ ap (λ (n : ℕ). sources ++ Map at ∷ map_sources n (drop (at + 1) ms)) later
+      ∙ ap (λ (l : List MemtableView). sources ++ map_sources at l) (sym here.1)
+      ∙ so_far
+
+-- all of them
+none_behind : {X : Type 0} (xs : List X) (at : ℕ) → length xs ≤ at → drop at xs ≡ []
+none_behind [] zero most = refl
+none_behind [] (suc at) most = refl
+none_behind (x ∷ xs) zero most = absurd (omega (arith, most))
+none_behind (x ∷ xs) (suc at) most = none_behind xs at (omega (arith, most))
 
 pub maps_end_heads : (ms : List MemtableView) (at : ℕ) (heads all : List Head) → length ms ≤ at → heads ++ map_heads (drop at ms) ≡ all → heads ≡ all
-maps_end_heads = maps_end (λ (m : MemtableView). head_of (map_.entries m.partitions))
+maps_end_heads ms at heads all most so_far = sym (append-nil heads) ∙ ap (λ (l : List MemtableView). heads ++ map_heads l) (sym (none_behind ms at most)) ∙ so_far
 
-pub maps_end_sources : (ms : List MemtableView) (at : ℕ) (sources all : List Source) → length ms ≤ at → sources ++ map_sources (drop at ms) ≡ all → sources ≡ all
-maps_end_sources = maps_end (λ (m : MemtableView). Map (behind (map_.entries m.partitions)))
+pub maps_end_sources : (ms : List MemtableView) (at : ℕ) (sources all : List Source) → length ms ≤ at → sources ++ map_sources at (drop at ms) ≡ all → sources ≡ all
+maps_end_sources ms at sources all most so_far = sym (append-nil sources) ∙ ap (λ (l : List MemtableView). sources ++ map_sources at l) (sym (none_behind ms at most)) ∙ so_far

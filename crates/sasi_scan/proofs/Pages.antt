@@ -22,11 +22,11 @@ use Rattle.sasi_scan.specs.declared.source.Source.TheVariants.{File}
 use Rattle.sasi_scan.specs.Sources.{IsOpenIn}
 use Rattle.sasi_scan.specs.Paging.{AllPagesRead, IsPaged, MovesReading, MovesWithin, OpensReading, PagesRead, StepsReading, StepsWithin, all_pages_left, pages_in, pages_left, table_reads}
 use Rattle.sasi_scan.specs.Parts.{AreContents, HasContent}
-use Rattle.sasi_scan.specs.Opening.{IsOpenedFile}
+use Rattle.sasi_scan.specs.Opening.{IsOpenedFile, map_sources}
 use Rattle.sasi_scan.specs.Scanning.{HasReadsLeft, MayRead, ScanView, scan_of}
 use Rattle.sasi_scan.proofs.Costs.{reads_same}
 use Rattle.sasi_scan.proofs.Moves.{got}
-use Rattle.sasi_scan.proofs.Openings.{content_at, map_sources}
+use Rattle.sasi_scan.proofs.Openings.{content_at}
 
 -- ---- one source
 
@@ -191,23 +191,23 @@ opening_ends v w p files at sources most reads = subst (λ (fs : List ListedFile
 
 -- ---- the whole
 
-maps_paged : (seen : Option Folder) (p : Partitioner) (sources : List Source) (ms : List MemtableView) → AllByRecursion (IsPaged seen p) sources → AllByRecursion (IsPaged seen p) (sources ++ map_sources ms)
-maps_paged seen p [] [] all = tt
-maps_paged seen p [] (m ∷ ms) all = (tt, maps_paged seen p [] ms tt)
-maps_paged seen p (s ∷ sources) ms all = (all.0, maps_paged seen p sources ms all.1)
+maps_paged : (seen : Option Folder) (p : Partitioner) (sources : List Source) (n : ℕ) (ms : List MemtableView) → AllByRecursion (IsPaged seen p) sources → AllByRecursion (IsPaged seen p) (sources ++ map_sources n ms)
+maps_paged seen p [] n [] all = tt
+maps_paged seen p [] n (m ∷ ms) all = (tt, maps_paged seen p [] (suc n) ms tt)
+maps_paged seen p (s ∷ sources) n ms all = (all.0, maps_paged seen p sources n ms all.1)
 
-maps_pages : (seen : Option Folder) (sources : List Source) (ms : List MemtableView) → all_pages_left seen (sources ++ map_sources ms) ≡ all_pages_left seen sources
-maps_pages seen [] [] = refl
-maps_pages seen [] (m ∷ ms) = omega (arith, maps_pages seen [] ms)
-maps_pages seen (s ∷ sources) ms = omega (arith, maps_pages seen sources ms)
+maps_pages : (seen : Option Folder) (sources : List Source) (n : ℕ) (ms : List MemtableView) → all_pages_left seen (sources ++ map_sources n ms) ≡ all_pages_left seen sources
+maps_pages seen [] n [] = refl
+maps_pages seen [] n (m ∷ ms) = omega (arith, maps_pages seen [] (suc n) ms)
+maps_pages seen (s ∷ sources) n ms = omega (arith, maps_pages seen sources n ms)
 
 -- what opened files and maps have left to read
-pub opened_may : (seen : Option Folder) (p : Partitioner) (files : List ListedFile) (ms : List MemtableView) (heads : List Head) (sources all : List Source) (before now : ℕ) → all ≡ sources ++ map_sources ms → OpensReading seen p (table_reads seen files) [] sources before now
+pub opened_may : (seen : Option Folder) (p : Partitioner) (files : List ListedFile) (ms : List MemtableView) (heads : List Head) (sources all : List Source) (before now : ℕ) → all ≡ sources ++ map_sources 0 ms → OpensReading seen p (table_reads seen files) [] sources before now
     → HasReadsLeft seen p (scan_of heads all) (before + table_reads seen files) now
 opened_may seen p files ms heads sources all before now all_are opened = record {
   left = all_pages_left seen all;
-  may = record { paged = subst (AllByRecursion (IsPaged seen p)) (sym all_are) (maps_paged seen p sources ms opened.paged); within = omega arith };
-  reads = omega (arith, opened.reads, ap (all_pages_left seen) all_are ∙ maps_pages seen sources ms);
+  may = record { paged = subst (AllByRecursion (IsPaged seen p)) (sym all_are) (maps_paged seen p sources 0 ms opened.paged); within = omega arith };
+  reads = omega (arith, opened.reads, ap (all_pages_left seen) all_are ∙ maps_pages seen sources 0 ms);
 }
 
 -- a scan that goes on, and one that reads nothing

@@ -1,7 +1,20 @@
 -- Steps of a source: what it has left afterwards, and what stays true of it.
-use Rattle.std.proofs.Common.{◌≡◌, List, [], ◌∷◌, drop, Option, None, Some, IfErr, IfOk, IfSome, IsSome, Result, Ok, Err, refl, sym, ap, subst, ◌∙◌}
+use Rattle.std.proofs.Common.{◌≡◌, ◌<◌, ◌&&◌, ℕ, suc, zero, Bool, true, false, cond, if◌then◌else◌, T, List, [], ◌∷◌, ◌++◌, drop, length, slice_get, Option, None, Some, IfErr, IfOk, IfSome, IsSome, Result, Ok, Err, refl, sym, ap, subst, ◌∙◌, arith}
+use Rattle.std.proofs.lemmas.Cmp.{tied_itself}
+use Rattle.std.specs.BTreeMap.Range.{range_contains}
+use Rattle.std.specs.FinMap as map_
+use Rattle.std.specs.FinMap.Entries.{below_all}
+use Rattle.std.specs.List.{Contains}
+use Rattle.std.specs.Ordering.{is_lt, ordering_reverse}
+use Rattle.std.specs.declared.cmp.Ordering.{Ordering}
+use Rattle.std.specs.declared.cmp.Ordering.TheVariants.{Less, Equal, Greater}
+use Rattle.std.specs.declared.ops.Bound.TheVariants.{Excluded, Unbounded}
 use Rattle.sasi_types.specs.declared.column.ColumnType.{ColumnType}
 use Rattle.sasi_types.specs.declared.partitioner.Partitioner.{Partitioner}
+use Rattle.sasi_types.specs.declared.decorated_key.DecoratedKey.{DecoratedKey}
+use Rattle.sasi_types.specs.DecoratedKey.{decorated_cmp, decorated_total}
+use Rattle.sasi_cells.proofs.Laws.Decorated.{entries_have}
+use Rattle.sasi_model.specs.Cells.{Partition}
 use Rattle.sasi_model.specs.State.{decorated}
 use Rattle.sasi_body.specs.Body.{IsBodyOf}
 use Rattle.sasi_host.specs.declared.fault.ReadFault.{ReadFault}
@@ -21,25 +34,21 @@ use Rattle.sasi_dataread.specs.Opened.{IsOpenedAs, OpenDataFile}
 use Rattle.sasi_dataread.specs.Reads.{IsOpenOn, NoFalseDataDamage}
 use Rattle.sasi_dataread.specs.Scans.{DataScan, NoFalseOpenedDamage, ReadsNextPartition, StepsToPartition}
 use Rattle.sasi_manifest.specs.declared.files.ListedFile.{ListedFile}
-use Rattle.sasi_memtable.specs.MemtableView.{MemtableView}
+use Rattle.sasi_memtable.specs.MemtableView.{MemtableView, entries_after}
 use Rattle.sasi_merge.specs.Merging.{Head}
-use Rattle.sasi_merge.specs.Streams.{Entries, behind, head_of}
+use Rattle.sasi_merge.specs.Streams.{Entries, IsRising, behind, head_of}
 use Rattle.sasi_scan.specs.declared.source.Source.{Source}
 use Rattle.sasi_scan.specs.declared.source.Source.TheVariants.{File, Map}
-use Rattle.sasi_scan.specs.Parts.{HasContent, ShowsListed, entries_of, of_file}
+use Rattle.sasi_scan.specs.Parts.{HasContent, IsOfPart, ShowsListed, entries_of, of_file, of_map}
 use Rattle.sasi_scan.specs.Sources.{AreOfPart, CanStep, CanWalk, IsHeadOf, IsListedFile, IsListedSource, IsOpenIn, IsSourceOf, NoFalseSourceDamage, ShowsSource, StepsInFile, StepsTo, numbers_of}
-use Rattle.sasi_scan.specs.Left.{HasLeft}
+use Rattle.sasi_scan.specs.Left.{HasLeftInFile, IsLeft, IsLeftInFile}
 use Rattle.sasi_scan.specs.Opening.{IsOpenedFile}
 use Rattle.sasi_scan.proofs.Costs.{reads_same}
 
 -- ---- what is left
 
--- a source that had these left gives the first of them, and has the others left
-pub record Gives (seen : Option Folder) (p : Partitioner) (left : Entries) (head : Head) (after : Source) : Type 0 where
-  pub head_is : head ≡ head_of left
-  pub behind_it : HasLeft seen p after (behind left)
-
-in_file : (seen : Option Folder) (p : Partitioner) (old new : DataScan) (left : Entries) (head : Head) (content : Content) → IsOpenIn seen old.opened p content → new.opened ≡ old.opened → left ≡ entries_of p (drop old.passed content) → StepsToPartition p content old.passed new.passed head → Gives seen p left head (File new)
+-- a scan of a data file that had these left gives the first of them, and has the others left
+in_file : (seen : Option Folder) (p : Partitioner) (old new : DataScan) (left : Entries) (head : Head) (content : Content) → IsOpenIn seen old.opened p content → new.opened ≡ old.opened → left ≡ entries_of p (drop old.passed content) → StepsToPartition p content old.passed new.passed head → IsLeftInFile seen p head new left
 in_file seen p old new left None content is same left_is steps =
     let none : left ≡ [] = left_is ∙ ap (entries_of p) steps.0 in
     record {
@@ -61,59 +70,109 @@ in_file seen p old new left (Some one) content is same left_is steps =
       };
     }
 
-pub steps_left : (seen : Option Folder) (p : Partitioner) (source : Source) (left : Entries) (head : Head) (after : Source) → HasLeft seen p source left → StepsTo seen source head after → Gives seen p left head after
-steps_left seen p (File old) left head (File new) has steps = in_file seen p old new left head has.content has.is steps.opened has.left_is (steps.next p has.content has.is)
-steps_left seen p (Map old) left head (Map new) has steps = record { head_is = steps.0 ∙ sym (ap head_of has); behind_it = ap behind has ∙ sym steps.1 }
-steps_left seen p (File old) left head (Map new) has steps = absurd steps
-steps_left seen p (Map old) left head (File new) has steps = absurd steps
+pub file_left : (seen : Option Folder) (p : Partitioner) (old new : DataScan) (left : Entries) (head : Head) → HasLeftInFile seen p old left → StepsInFile seen old head new → IsLeftInFile seen p head new left
+file_left seen p old new left head has steps = in_file seen p old new left head has.content has.is steps.opened has.left_is (steps.next p has.content has.is)
+
+-- ---- behind a key
+
+both_true : (a b : Bool) → T (a && b) → T a × T b
+both_true true b h = (tt, h)
+both_true false b h = absurd h
+
+is_less : (r : Ordering) → T (is_lt r) → r ≡ Less
+is_less Less h = refl
+is_less Equal h = absurd h
+is_less Greater h = absurd h
+
+-- entries that are above a key are behind it
+above_after : (key : DecoratedKey) (es : Entries) → T (below_all decorated_cmp key es) → entries_after (Some key) es ≡ es
+above_after key [] below = refl
+above_after key (e ∷ es) below =
+    let parts = both_true _ _ below in
+    let less : decorated_cmp key e.0 ≡ Less = is_less _ parts.0 in
+    let rest = above_after key es parts.1 in
+    ap (λ (r : Ordering). cond (is_lt r && true) (e ∷ entries_after (Some key) es) (entries_after (Some key) es)) less ∙ ap (λ (x : Entries). e ∷ x) rest
+
+-- behind the first of what is left are the others
+pub after_first : (before : Entries) (e : DecoratedKey × Partition) (rest : Entries) → IsRising (before ++ e ∷ rest) → entries_after (Some e.0) (before ++ e ∷ rest) ≡ rest
+after_first [] e rest rising =
+    let parts = both_true _ _ rising in
+    let same : decorated_cmp e.0 e.0 ≡ Equal = tied_itself decorated_total e.0 in
+    let others = above_after e.0 rest parts.0 in
+    ap (λ (r : Ordering). cond (is_lt r && true) (e ∷ entries_after (Some e.0) rest) (entries_after (Some e.0) rest)) same ∙ others
+after_first (b ∷ before) e rest rising =
+    let parts = both_true _ _ rising in
+    let less : decorated_cmp b.0 e.0 ≡ Less = first_below before parts.0 in
+    let more : decorated_cmp e.0 b.0 ≡ Greater = decorated_total.antisymm e.0 b.0 ∙ ap ordering_reverse less in
+    let others = after_first before e rest parts.1 in
+    ap (λ (r : Ordering). cond (is_lt r && true) (b ∷ entries_after (Some e.0) (before ++ e ∷ rest)) (entries_after (Some e.0) (before ++ e ∷ rest))) more ∙ others
+  where
+    first_below : (xs : Entries) → T (below_all decorated_cmp b.0 (xs ++ e ∷ rest)) → decorated_cmp b.0 e.0 ≡ Less
+    first_below [] below = is_less _ (both_true _ _ below).0
+    first_below (x ∷ xs) below = first_below xs (both_true _ _ below).1
 
 -- ---- what stays
 
-pub steps_can : (seen : Option Folder) (source : Source) (head : Head) (after : Source) → StepsTo seen source head after → CanStep seen after
-steps_can seen (File old) head (File new) steps = steps.can
-steps_can seen (Map old) head (Map new) steps = tt
-steps_can seen (File old) head (Map new) steps = absurd steps
-steps_can seen (Map old) head (File new) steps = absurd steps
+pub steps_can : (seen : Option Folder) (ms : List MemtableView) (key : DecoratedKey) (source : Source) (head : Head) (after : Source) → StepsTo seen ms key source head after → CanStep seen ms source → CanStep seen ms after
+steps_can seen ms key (File old) head (File new) steps can = steps.can
+steps_can seen ms key (Map old) head (Map new) steps can = subst (λ (n : ℕ). n < length ms) (sym steps.0) can
+steps_can seen ms key (File old) head (Map new) steps can = absurd steps
+steps_can seen ms key (Map old) head (File new) steps can = absurd steps
 
-pub steps_listed : (seen : Option Folder) (files : List ListedFile) (types : List ColumnType) (source : Source) (head : Head) (after : Source) → StepsTo seen source head after → IsListedSource seen files types source → IsListedSource seen files types after
-steps_listed seen files types (File old) head (File new) steps listed = subst (λ (o : OpenDataFile). IsListedFile seen files types o) (sym steps.opened) listed
-steps_listed seen files types (Map old) head (Map new) steps listed = tt
-steps_listed seen files types (File old) head (Map new) steps listed = absurd steps
-steps_listed seen files types (Map old) head (File new) steps listed = absurd steps
+pub steps_listed : (seen : Option Folder) (ms : List MemtableView) (key : DecoratedKey) (files : List ListedFile) (types : List ColumnType) (source : Source) (head : Head) (after : Source) → StepsTo seen ms key source head after → IsListedSource seen files types source → IsListedSource seen files types after
+steps_listed seen ms key files types (File old) head (File new) steps listed = subst (λ (o : OpenDataFile). IsListedFile seen files types o) (sym steps.opened) listed
+steps_listed seen ms key files types (Map old) head (Map new) steps listed = tt
+steps_listed seen ms key files types (File old) head (Map new) steps listed = absurd steps
+steps_listed seen ms key files types (Map old) head (File new) steps listed = absurd steps
 
 -- ---- in any file
-
--- what is stepped to is of a part, and so is what is left
-pub record AreOf (types : List ColumnType) (maps : List MemtableView) (head : Head) (after : Source) : Type 0 where
-  pub head_of_part : IsHeadOf types maps head
-  pub source_of_part : IsSourceOf types maps after
 
 body_of : (types : List ColumnType) (maps : List MemtableView) (head : Head) → IfSome head (λ one. IsBodyOf types one.1 one.2) → IsHeadOf types maps head
 body_of types maps None is = tt
 body_of types maps (Some one) is = of_file is
 
+pub file_of : (seen : Option Folder) (types : List ColumnType) (maps : List MemtableView) (old : DataScan) (head : Head) (new : DataScan) → StepsInFile seen old head new → old.opened.types ≡ types → IsHeadOf types maps head
+file_of seen types maps old head new steps of = body_of types maps head (subst (λ (ts : List ColumnType). IfSome head (λ one. IsBodyOf ts one.1 one.2)) of steps.in_table)
+
 first_of : (types : List ColumnType) (maps : List MemtableView) (es : Entries) → AreOfPart types maps es → IsHeadOf types maps (head_of es)
 first_of types maps [] all = tt
 first_of types maps (e ∷ es) all = all.0
 
-others_of : (types : List ColumnType) (maps : List MemtableView) (es : Entries) → AreOfPart types maps es → AreOfPart types maps (behind es)
-others_of types maps [] all = tt
-others_of types maps (e ∷ es) all = all.1
+after_of : (types : List ColumnType) (maps : List MemtableView) (key : DecoratedKey) (es : Entries) → AreOfPart types maps es → AreOfPart types maps (entries_after (Some key) es)
+after_of types maps key [] all = tt
+after_of types maps key (e ∷ es) all = by (range_contains decorated_cmp (Excluded key) Unbounded e.0) (after_of types maps key es all.1)
+  where
+    by : (b : Bool) → AreOfPart types maps (entries_after (Some key) es) → AreOfPart types maps (if b then e ∷ entries_after (Some key) es else entries_after (Some key) es)
+    by true rest = (all.0, rest)
+    by false rest = rest
 
-pub map_of_part : (types : List ColumnType) (maps : List MemtableView) (es : Entries) → AreOfPart types maps es → AreOf types maps (head_of es) (Map (behind es))
-map_of_part types maps es all = record { head_of_part = first_of types maps es all; source_of_part = others_of types maps es all }
+-- the entries of a map are of it
+map_of_part : (types : List ColumnType) (all : List MemtableView) (m : MemtableView) → Contains all m → AreOfPart types all (map_.entries m.partitions)
+map_of_part types all m among = entries_have (λ entry. IsOfPart types all entry.0.key entry.1) m.partitions (λ q part is. of_map m q among is refl)
 
-pub steps_of : (seen : Option Folder) (types : List ColumnType) (maps : List MemtableView) (source : Source) (head : Head) (after : Source) → StepsTo seen source head after → IsSourceOf types maps source → AreOf types maps head after
-steps_of seen types maps (File old) head (File new) steps of = record {
-  head_of_part = body_of types maps head (subst (λ (ts : List ColumnType). IfSome head (λ one. IsBodyOf ts one.1 one.2)) of steps.in_table);
-  source_of_part = ap (λ (o : OpenDataFile). o.types) steps.opened ∙ of;
-}
-steps_of seen types maps (Map old) head (Map new) steps of = record {
-  head_of_part = subst (IsHeadOf types maps) (sym steps.0) (first_of types maps old of);
-  source_of_part = subst (AreOfPart types maps) (sym steps.1) (others_of types maps old of);
-}
-steps_of seen types maps (File old) head (Map new) steps of = absurd steps
-steps_of seen types maps (Map old) head (File new) steps of = absurd steps
+pub map_head : (types : List ColumnType) (all : List MemtableView) (m : MemtableView) → Contains all m → IsHeadOf types all (head_of (map_.entries m.partitions))
+map_head types all m among = first_of types all (map_.entries m.partitions) (map_of_part types all m among)
+
+there : (ms : List MemtableView) (n : ℕ) → n < length ms → (m : MemtableView) × (slice_get ms n ≡ Some m) × Contains ms m
+there [] n short = absurd (omega (arith, short))
+there (m ∷ ms) zero short = (m, refl, (zero, omega arith, refl))
+there (m ∷ ms) (suc n) short =
+    let rest = there ms n (omega (arith, short)) in
+    (rest.0, rest.1, (suc rest.2.0, omega (arith, rest.2.1), rest.2.2))
+
+pub steps_head : (seen : Option Folder) (ms : List MemtableView) (key : DecoratedKey) (types : List ColumnType) (source : Source) (head : Head) (after : Source) → StepsTo seen ms key source head after → CanStep seen ms source → IsSourceOf types source → IsHeadOf types ms head
+steps_head seen ms key types (File old) head (File new) steps can of = file_of seen types ms old head new steps of
+steps_head seen ms key types (Map old) head (Map new) steps can of =
+    let one = there ms old can in
+    subst (IsHeadOf types ms) (sym (steps.1 one.0 one.1)) (first_of types ms (entries_after (Some key) (map_.entries one.0.partitions)) (after_of types ms key (map_.entries one.0.partitions) (map_of_part types ms one.0 one.2)))
+steps_head seen ms key types (File old) head (Map new) steps can of = absurd steps
+steps_head seen ms key types (Map old) head (File new) steps can of = absurd steps
+
+pub steps_of : (seen : Option Folder) (ms : List MemtableView) (key : DecoratedKey) (types : List ColumnType) (source : Source) (head : Head) (after : Source) → StepsTo seen ms key source head after → IsSourceOf types source → IsSourceOf types after
+steps_of seen ms key types (File old) head (File new) steps of = ap (λ (o : OpenDataFile). o.types) steps.opened ∙ of
+steps_of seen ms key types (Map old) head (Map new) steps of = tt
+steps_of seen ms key types (File old) head (Map new) steps of = absurd steps
+steps_of seen ms key types (Map old) head (File new) steps of = absurd steps
 
 -- ---- damage
 
@@ -130,18 +189,18 @@ source_shown seen files types (File scan) (fault.Damaged damage) listed shown = 
       (subst (λ (k : List ColumnType). ShowsDataFile k scan.opened.file bytes damage) listed.types_are
       (inside _ (listed.footer bytes there) (shown bytes there)));
 }
-source_shown seen files types (Map rest) fault.Failed listed shown = tt
-source_shown seen files types (Map rest) fault.OutOfMemory listed shown = tt
-source_shown seen files types (Map rest) (fault.Damaged damage) listed shown = absurd shown
+source_shown seen files types (Map position) fault.Failed listed shown = tt
+source_shown seen files types (Map position) fault.OutOfMemory listed shown = tt
+source_shown seen files types (Map position) (fault.Damaged damage) listed shown = absurd shown
 
 -- and none of a source that has partitions left
-pub no_false_source : (seen : Option Folder) (p : Partitioner) (source : Source) (left : Entries) (f : ReadFault) → HasLeft seen p source left → NoFalseSourceDamage seen source f → OnDamage (λ _. ⊥) f
-no_false_source seen p (File scan) left fault.Failed has no_false = tt
-no_false_source seen p (File scan) left fault.OutOfMemory has no_false = tt
-no_false_source seen p (File scan) left (fault.Damaged damage) has no_false = no_false p has.content has.is
-no_false_source seen p (Map rest) left fault.Failed has no_false = tt
-no_false_source seen p (Map rest) left fault.OutOfMemory has no_false = tt
-no_false_source seen p (Map rest) left (fault.Damaged damage) has no_false = no_false
+pub no_false_source : (seen : Option Folder) (p : Partitioner) (ms : List MemtableView) (head : Head) (source : Source) (left : Entries) (f : ReadFault) → IsLeft seen p ms head source left → NoFalseSourceDamage seen source f → OnDamage (λ _. ⊥) f
+no_false_source seen p ms head (File scan) left fault.Failed has no_false = tt
+no_false_source seen p ms head (File scan) left fault.OutOfMemory has no_false = tt
+no_false_source seen p ms head (File scan) left (fault.Damaged damage) has no_false = no_false p has.behind_it.content has.behind_it.is
+no_false_source seen p ms head (Map position) left fault.Failed has no_false = tt
+no_false_source seen p ms head (Map position) left fault.OutOfMemory has no_false = tt
+no_false_source seen p ms head (Map position) left (fault.Damaged damage) has no_false = no_false
 
 -- ---- a step in a file, by what its scan promises
 

@@ -8,11 +8,10 @@ use Rattle.sasi_host.specs.declared.name.FileName.{FileName}
 use Rattle.sasi_host.specs.Buffered.{Buffered}
 use Rattle.sasi_host.specs.Files.{name_code}
 use Rattle.sasi_host.specs.Names.{Bytes}
-use Rattle.sasi_model.specs.Codes.{coded_column_type, coded_decorated, coded_partition}
+use Rattle.sasi_model.specs.Codes.{coded_column_type}
 use Rattle.sasi_dataread.specs.Opened.{OpenDataFile}
 use Rattle.sasi_dataread.specs.Scans.{DataScan}
 use Rattle.sasi_merge.specs.Merging.{Head, coded_head}
-use Rattle.sasi_merge.specs.Streams.{Entries}
 use Rattle.sasi_scan.specs.Scanning.{ScanView}
 use Rattle.sasi_scan.specs.declared.source.Source.{Source}
 use Rattle.sasi_scan.specs.declared.source.Source.TheVariants.{File, Map}
@@ -35,20 +34,20 @@ coded_data_scan =
     code_by (OpenDataFile × (ℕ × (Buffered × Buffered))) (coded× coded_opened (coded× coded_ℕ (coded× coded_buffered coded_buffered)))
     (λ s. (s.opened, (s.passed, (s.pairs_buffered, s.buffered)))) (λ c. record { opened = c.0; passed = c.1.0; pairs_buffered = c.1.1.0; buffered = c.1.1.1 }) (λ _. refl)
 
-abbrev split : Source → DataScan ⊎ Entries
+abbrev split : Source → DataScan ⊎ ℕ
 split (File scan) = inl scan
-split (Map left) = inr left
+split (Map position) = inr position
 
-abbrev joined : DataScan ⊎ Entries → Source
+abbrev joined : DataScan ⊎ ℕ → Source
 joined (inl scan) = File scan
-joined (inr left) = Map left
+joined (inr position) = Map position
 
 abbrev split_again : (source : Source) → joined (split source) ≡ source
 split_again (File scan) = refl
-split_again (Map left) = refl
+split_again (Map position) = refl
 
 abbrev coded_source : Coded Source
-coded_source = code_by (DataScan ⊎ Entries) (coded⊎ coded_data_scan (coded_list (coded× coded_decorated coded_partition))) split joined split_again
+coded_source = code_by (DataScan ⊎ ℕ) (coded⊎ coded_data_scan coded_ℕ) split joined split_again
 
 abbrev pub coded_scan : Coded ScanView
 coded_scan = code_by (List Head × List Source) (coded× (coded_list coded_head) (coded_list coded_source)) (λ s. (s.heads, s.sources)) (λ c. record { heads = c.0; sources = c.1 }) (λ _. refl)

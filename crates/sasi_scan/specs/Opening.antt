@@ -1,5 +1,6 @@
 -- The opening of the sources of listed data files, each with its first head.
-use Rattle.std.specs.Prelude.{◌≡◌, List, [], ◌∷◌, ◌++◌, Option, None, Some, zero}
+use Rattle.std.specs.Prelude.{◌≡◌, ℕ, List, [], ◌∷◌, ◌++◌, map, Option, None, Some, suc, zero}
+use Rattle.std.specs.FinMap as map_
 use Rattle.sasi_types.specs.declared.column.ColumnType.{ColumnType}
 use Rattle.sasi_types.specs.declared.partitioner.Partitioner.{Partitioner}
 use Rattle.sasi_host.specs.Names.{Bytes, Folder, data_name}
@@ -8,11 +9,13 @@ use Rattle.sasi_datawrite.specs.Format.{Content}
 use Rattle.sasi_dataread.specs.HeaderAndFooter.{HasHeaderAndFooter}
 use Rattle.sasi_dataread.specs.Scans.{DataScan}
 use Rattle.sasi_manifest.specs.declared.files.ListedFile.{ListedFile}
+use Rattle.sasi_memtable.specs.MemtableView.{MemtableView}
 use Rattle.sasi_merge.specs.Merging.{Head}
+use Rattle.sasi_merge.specs.Streams.{head_of}
 use Rattle.sasi_scan.specs.Parts.{HasContent}
-use Rattle.sasi_scan.specs.Sources.{CanWalk, IsOpenIn, StepsTo, numbers_of}
+use Rattle.sasi_scan.specs.Sources.{CanWalk, IsOpenIn, StepsInFile, numbers_of}
 use Rattle.sasi_scan.specs.declared.source.Source.{Source}
-use Rattle.sasi_scan.specs.declared.source.Source.TheVariants.{File}
+use Rattle.sasi_scan.specs.declared.source.Source.TheVariants.{File, Map}
 
 -- the scan of the listed file, before its first partition
 pub record IsOpenedFile (seen : Option Folder) (types : List ColumnType) (file : ListedFile) (scan : DataScan) : Type 0 where
@@ -28,8 +31,10 @@ pub record IsOpenedFile (seen : Option Folder) (types : List ColumnType) (file :
 -- the listed file was opened, and its first head was read
 pub record IsOpened (seen : Option Folder) (types : List ColumnType) (file : ListedFile) (head : Head) (source : Source) : Type 0 where
   pub scan : DataScan
+  pub next : DataScan
   pub is : IsOpenedFile seen types file scan
-  pub steps : StepsTo seen (File scan) head source
+  pub steps : StepsInFile seen scan head next
+  pub source_is : source ≡ File next
 
 abbrev pub AreOpened : Option Folder → List ColumnType → List ListedFile → List Head → List Source → Type 0
 AreOpened seen types [] heads sources = (heads ≡ []) × (sources ≡ [])
@@ -44,3 +49,12 @@ pub record IsAdded (P : Head → Source → Type 0) (heads : List Head) (sources
   pub is : P head source
   pub heads_are : heads_new ≡ heads ++ head ∷ []
   pub sources_are : sources_new ≡ sources ++ source ∷ []
+
+-- the sources of maps, by their positions, from this one on
+abbrev pub map_sources : ℕ → List MemtableView → List Source
+map_sources position [] = []
+map_sources position (m ∷ ms) = Map position ∷ map_sources (suc position) ms
+
+-- and their first heads
+abbrev pub map_heads : List MemtableView → List Head
+map_heads = map (λ (m : MemtableView). head_of (map_.entries m.partitions))

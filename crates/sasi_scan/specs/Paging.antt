@@ -36,12 +36,12 @@ pub record IsPagedFile (seen : Option Folder) (partitioner : Partitioner) (scan 
 
 abbrev pub IsPaged : Option Folder → Partitioner → Source → Type 0
 IsPaged seen partitioner (File scan) = IsPagedFile seen partitioner scan
-IsPaged seen partitioner (Map left) = ⊤
+IsPaged seen partitioner (Map position) = ⊤
 
 -- how many pages a source may still come to
 abbrev pub pages_left : Option Folder → Source → ℕ
 pages_left seen (File scan) = 2 * pages_in seen scan.opened.file - progress scan
-pages_left seen (Map left) = 0
+pages_left seen (Map position) = 0
 
 abbrev pub all_pages_left : Option Folder → List Source → ℕ
 all_pages_left seen [] = 0

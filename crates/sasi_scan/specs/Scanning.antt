@@ -27,37 +27,37 @@ pub record ScanView : Type 0 where
 abbrev pub scan_of : List Head → List Source → ScanView
 scan_of heads sources = record { heads = heads; sources = sources }
 
--- the files of the scan are there, and what is buffered of them is theirs
-pub record CanScan (seen : Option Folder) (scan : ScanView) : Type 0 where
-  pub can : AllByRecursion (CanStep seen) scan.sources
+-- the files of the scan are there, what is buffered of them is theirs, and it has no further maps
+pub record CanScan (seen : Option Folder) (maps : List MemtableView) (scan : ScanView) : Type 0 where
+  pub can : AllByRecursion (CanStep seen maps) scan.sources
   pub counted : length scan.heads ≡ length scan.sources
 
 -- in any file, it is a scan of these listed files, of a table with these types, and of these maps
 pub record IsScanOf (seen : Option Folder) (files : List ListedFile) (types : List ColumnType) (maps : List MemtableView) (scan : ScanView) : Type 0 where
   pub listed : AllByRecursion (IsListedSource seen files types) scan.sources
-  pub sources_of : AllByRecursion (IsSourceOf types maps) scan.sources
+  pub sources_of : AllByRecursion (IsSourceOf types) scan.sources
   pub heads_of : AllByRecursion (IsHeadOf types maps) scan.heads
 
 -- ---- what is left
 
 -- its files are the data files of contents, and of the merge these partitions are left
-pub record IsScanning (seen : Option Folder) (partitioner : Partitioner) (scan : ScanView) (left : Entries) : Type 0 where
+pub record IsScanning (seen : Option Folder) (partitioner : Partitioner) (maps : List MemtableView) (scan : ScanView) (left : Entries) : Type 0 where
   pub each : List Entries
-  pub each_is : AreLeft seen partitioner scan.heads scan.sources each
+  pub each_is : AreLeft seen partitioner maps scan.heads scan.sources each
   pub rising : AllByRecursion IsRising each
   pub is : left ≡ merged_entries each
 
 -- the key and the partition are the first of those that were left, and the scan has the others left
-pub record GivesEntry (seen : Option Folder) (partitioner : Partitioner) (left : Entries) (scan : ScanView) (key : List ℕ) (part : Partition) : Type 0 where
+pub record GivesEntry (seen : Option Folder) (partitioner : Partitioner) (maps : List MemtableView) (left : Entries) (scan : ScanView) (key : List ℕ) (part : Partition) : Type 0 where
   pub token : ℕ
   pub rest : Entries
   pub is : left ≡ (with_token token key, part) ∷ rest
-  pub others : IsScanning seen partitioner scan rest
+  pub others : IsScanning seen partitioner maps scan rest
 
 -- **A scan gives the first of what is left of the merge**, and nothing exactly where nothing is left.
-abbrev pub GivesFirst : Option Folder → Partitioner → Entries → ScanView → Option (List ℕ × Partition) → Type 0
-GivesFirst seen partitioner left scan None = (left ≡ []) × IsScanning seen partitioner scan []
-GivesFirst seen partitioner left scan (Some one) = GivesEntry seen partitioner left scan one.0 one.1
+abbrev pub GivesFirst : Option Folder → Partitioner → List MemtableView → Entries → ScanView → Option (List ℕ × Partition) → Type 0
+GivesFirst seen partitioner maps left scan None = (left ≡ []) × IsScanning seen partitioner maps scan []
+GivesFirst seen partitioner maps left scan (Some one) = GivesEntry seen partitioner maps left scan one.0 one.1
 
 -- ---- reads
 

@@ -1,5 +1,6 @@
 -- Sources of a table's partitions: what a step of one needs, what it gives, and what it shows where a file is damaged.
-use Rattle.std.specs.Prelude.{◌≡◌, ℕ, zero, suc, List, ◌∷◌, true, false, slice_get, set, Option, Some, IfSome, IsSome, ⊤}
+use Rattle.std.specs.Prelude.{◌≡◌, ◌<◌, ℕ, zero, suc, List, ◌∷◌, true, false, length, slice_get, set, Option, Some, IfSome, IsSome, ⊤}
+use Rattle.std.specs.FinMap as map_
 use Rattle.std.specs.List.{AllByRecursion, Contains}
 use Rattle.sasi_types.specs.declared.column.ColumnType.{ColumnType}
 use Rattle.sasi_types.specs.declared.decorated_key.DecoratedKey.{DecoratedKey}
@@ -18,9 +19,9 @@ use Rattle.sasi_dataread.specs.HeaderAndFooter.{HasHeaderAndFooter}
 use Rattle.sasi_dataread.specs.Opened.{IsOpenedAs, OpenDataFile}
 use Rattle.sasi_dataread.specs.Scans.{DataScan, KeysAreBytes, StepsToPartition}
 use Rattle.sasi_manifest.specs.declared.files.ListedFile.{ListedFile}
-use Rattle.sasi_memtable.specs.MemtableView.{MemtableView}
+use Rattle.sasi_memtable.specs.MemtableView.{MemtableView, entries_after}
 use Rattle.sasi_merge.specs.Merging.{Head, has_key}
-use Rattle.sasi_merge.specs.Streams.{Entries, behind, head_of}
+use Rattle.sasi_merge.specs.Streams.{Entries, head_of}
 use Rattle.sasi_scan.specs.Parts.{IsOfPart}
 use Rattle.sasi_scan.specs.declared.source.Source.{Source}
 use Rattle.sasi_scan.specs.declared.source.Source.TheVariants.{File, Map}
@@ -33,9 +34,10 @@ pub record CanWalk (seen : Option Folder) (scan : DataScan) : Type 0 where
   pub pairs_buffered : IsBuffered scan.pairs_buffered seen
   pub buffered : IsBuffered scan.buffered seen
 
-abbrev pub CanStep : Option Folder → Source → Type 0
-CanStep seen (File scan) = CanWalk seen scan
-CanStep seen (Map left) = ⊤
+-- a map is one of the maps in memory, by its position
+abbrev pub CanStep : Option Folder → List MemtableView → Source → Type 0
+CanStep seen maps (File scan) = CanWalk seen scan
+CanStep seen maps (Map position) = position < length maps
 
 -- the file reads as the data file of a content, and was opened as that
 pub record IsOpenIn (seen : Option Folder) (opened : OpenDataFile) (partitioner : Partitioner) (content : Content) : Type 0 where
@@ -52,34 +54,34 @@ pub record StepsInFile (seen : Option Folder) (old : DataScan) (head : Head) (ne
   pub in_table : IfSome head (λ one. IsBodyOf old.opened.types one.1 one.2)
   pub next : (partitioner : Partitioner) (content : Content) → IsOpenIn seen old.opened partitioner content → StepsToPartition partitioner content old.passed new.passed head
 
--- the source goes on to this head
-abbrev pub StepsTo : Option Folder → Source → Head → Source → Type 0
-StepsTo seen (File old) head (File new) = StepsInFile seen old head new
-StepsTo seen (Map old) head (Map new) = (head ≡ head_of old) × (new ≡ behind old)
-StepsTo seen (File old) head (Map new) = ⊥
-StepsTo seen (Map old) head (File new) = ⊥
+-- the source goes on to this head, which in a map is the first entry behind the key
+abbrev pub StepsTo : Option Folder → List MemtableView → DecoratedKey → Source → Head → Source → Type 0
+StepsTo seen maps key (File old) head (File new) = StepsInFile seen old head new
+StepsTo seen maps key (Map old) head (Map new) = (new ≡ old) × ((m : MemtableView) → slice_get maps old ≡ Some m → head ≡ head_of (entries_after (Some key) (map_.entries m.partitions)))
+StepsTo seen maps key (File old) head (Map new) = ⊥
+StepsTo seen maps key (Map old) head (File new) = ⊥
 
 -- ---- damage
 
 -- damage is what the file of a source shows
 abbrev pub ShowsSource : Option Folder → Source → ReadFault → Type 0
 ShowsSource seen (File scan) = OnDamage (λ damage. (bytes : Bytes) → contents_in seen scan.opened.file ≡ Some bytes → ShowsData scan.opened bytes damage)
-ShowsSource seen (Map left) = OnDamage (λ _. ⊥)
+ShowsSource seen (Map position) = OnDamage (λ _. ⊥)
 
 -- and is reported only where the file isn't the data file that was opened
 abbrev pub NoFalseSourceDamage : Option Folder → Source → ReadFault → Type 0
 NoFalseSourceDamage seen (File scan) = OnDamage (λ _. (partitioner : Partitioner) (content : Content) → IsOpenIn seen scan.opened partitioner content → ⊥)
-NoFalseSourceDamage seen (Map left) = OnDamage (λ _. ⊥)
+NoFalseSourceDamage seen (Map position) = OnDamage (λ _. ⊥)
 
 -- ---- all sources
 
--- in any file, what a source has left is of the parts of the table
+-- in any file, these entries are of the parts of the table
 abbrev pub AreOfPart : List ColumnType → List MemtableView → Entries → Type 0
 AreOfPart types maps = AllByRecursion (λ entry. IsOfPart types maps entry.0.key entry.1)
 
-abbrev pub IsSourceOf : List ColumnType → List MemtableView → Source → Type 0
-IsSourceOf types maps (File scan) = scan.opened.types ≡ types
-IsSourceOf types maps (Map left) = AreOfPart types maps left
+abbrev pub IsSourceOf : List ColumnType → Source → Type 0
+IsSourceOf types (File scan) = scan.opened.types ≡ types
+IsSourceOf types (Map position) = ⊤
 
 abbrev pub IsHeadOf : List ColumnType → List MemtableView → Head → Type 0
 IsHeadOf types maps head = IfSome head (λ one. IsOfPart types maps one.1 one.2)
@@ -97,29 +99,29 @@ pub record IsListedFile (seen : Option Folder) (files : List ListedFile) (types 
 
 abbrev pub IsListedSource : Option Folder → List ListedFile → List ColumnType → Source → Type 0
 IsListedSource seen files types (File scan) = IsListedFile seen files types scan.opened
-IsListedSource seen files types (Map left) = ⊤
+IsListedSource seen files types (Map position) = ⊤
 
 -- ---- the sources whose heads have a key go on
 
 -- this source advances if its head has the key
-pub data IsMoved (seen : Option Folder) (key : DecoratedKey) (head : Head) (source : Source) (next : Head) (after : Source) : Type 0 where
-  advances : has_key key head ≡ true → StepsTo seen source next after → IsMoved seen key head source next after
-  stays : has_key key head ≡ false → next ≡ head → after ≡ source → IsMoved seen key head source next after
+pub data IsMoved (seen : Option Folder) (maps : List MemtableView) (key : DecoratedKey) (head : Head) (source : Source) (next : Head) (after : Source) : Type 0 where
+  advances : has_key key head ≡ true → StepsTo seen maps key source next after → IsMoved seen maps key head source next after
+  stays : has_key key head ≡ false → next ≡ head → after ≡ source → IsMoved seen maps key head source next after
 
 -- so do the first so many, and the others stay
-abbrev pub AreMoved : Option Folder → DecoratedKey → ℕ → List Head → List Source → List Head → List Source → Type 0
-AreMoved seen key zero heads sources nexts afters = (nexts ≡ heads) × (afters ≡ sources)
-AreMoved seen key (suc n) (head ∷ heads) (source ∷ sources) (next ∷ nexts) (after ∷ afters) = IsMoved seen key head source next after × AreMoved seen key n heads sources nexts afters
-AreMoved seen key (suc n) heads sources nexts afters = ⊥
+abbrev pub AreMoved : Option Folder → List MemtableView → DecoratedKey → ℕ → List Head → List Source → List Head → List Source → Type 0
+AreMoved seen maps key zero heads sources nexts afters = (nexts ≡ heads) × (afters ≡ sources)
+AreMoved seen maps key (suc n) (head ∷ heads) (source ∷ sources) (next ∷ nexts) (after ∷ afters) = IsMoved seen maps key head source next after × AreMoved seen maps key n heads sources nexts afters
+AreMoved seen maps key (suc n) heads sources nexts afters = ⊥
 
 -- the source at this position does
-pub record IsMovedAt (seen : Option Folder) (key : DecoratedKey) (at : ℕ) (heads : List Head) (sources : List Source) (nexts : List Head) (afters : List Source) : Type 0 where
+pub record IsMovedAt (seen : Option Folder) (maps : List MemtableView) (key : DecoratedKey) (at : ℕ) (heads : List Head) (sources : List Source) (nexts : List Head) (afters : List Source) : Type 0 where
   pub head : Head
   pub source : Source
   pub next : Head
   pub after : Source
   pub had : slice_get heads at ≡ Some head
   pub was : slice_get sources at ≡ Some source
-  pub moved : IsMoved seen key head source next after
+  pub moved : IsMoved seen maps key head source next after
   pub heads_are : nexts ≡ set heads at next
   pub sources_are : afters ≡ set sources at after

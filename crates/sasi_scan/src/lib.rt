@@ -3,7 +3,7 @@
 #![tactic(auto)]
 
 mod key_lookup;
-mod map_scan;
+mod map_heads;
 mod source;
 mod sources;
 mod table_scan;

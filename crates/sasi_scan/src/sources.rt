@@ -1,6 +1,5 @@
 // All sources of a table's partitions, and their heads.
-ghost use Rattle.std.specs.Prelude.{◌≡◌, ◌+◌, ◌*◌, ◌≤◌, ◌<◌, ◌++◌, ◌∷◌, [], length, List, slice_get, Some, map as map_list, IfErr, IfOk, OnOk};
-ghost use Rattle.std.specs.FinMap as map_;
+ghost use Rattle.std.specs.Prelude.{◌≡◌, ◌+◌, ◌*◌, ◌≤◌, ◌<◌, ◌++◌, ◌∷◌, [], length, List, slice_get, Some, IfErr, IfOk, OnOk};
 ghost use Rattle.std.specs.List.{AllByRecursion};
 ghost use Rattle.sasi_types.specs.declared.partitioner.Partitioner.{Partitioner};
 ghost use Rattle.sasi_types.specs.declared.column.ColumnType.{ColumnType};
@@ -10,26 +9,27 @@ ghost use Rattle.sasi_host.specs.Names.{Bytes, data_name};
 ghost use Rattle.sasi_host.specs.View.{IsThere, ReadCost, contents_in};
 ghost use Rattle.sasi_datawrite.specs.Format.{Content};
 ghost use Rattle.sasi_dataread.specs.Damages.{ShowsDataFile};
+ghost use Rattle.sasi_model.specs.Cells.{empty_partition};
 ghost use Rattle.sasi_manifest.specs.declared.files.ListedFile.{ListedFile as AListedFile};
-ghost use Rattle.sasi_merge.specs.Merging.{with_token};
-ghost use Rattle.sasi_merge.specs.Streams.{Entries, behind, head_of};
+ghost use Rattle.sasi_merge.specs.Merging.{Head as AHead, head_with, merged_part};
+ghost use Rattle.sasi_merge.specs.Streams.{Entries};
 ghost use Rattle.sasi_scan.specs.declared.source.Source.{Source as ASource};
-ghost use Rattle.sasi_scan.specs.declared.source.Source.TheVariants.{Map};
 ghost use Rattle.sasi_scan.specs.Parts.{AreContents, HasContent, ShowsListed};
 ghost use Rattle.sasi_scan.specs.Sources.{AreMoved, CanStep, IsListedSource, IsMovedAt, NoFalseSourceDamage, ShowsSource};
 ghost use Rattle.sasi_scan.specs.Left.{AreLeft};
-ghost use Rattle.sasi_scan.specs.Opening.{AreOpened, IsAdded, IsOpened, IsOpenedFile};
+ghost use Rattle.sasi_scan.specs.Opening.{AreOpened, IsAdded, IsOpened, IsOpenedFile, map_heads, map_sources};
 ghost use Rattle.sasi_scan.specs.Paging.{IsPaged, MovesWithin, OpensWithin, pages_in, table_reads};
 ghost use Rattle.sasi_scan.specs.Scanning.{ScanCauses};
 
-use crate::map_scan::MapScan;
-use crate::source::Source;
+use crate::map_heads::head_after;
+use crate::source::{Source, next_in_file};
+use sasi_cells::Partition;
 use sasi_dataread::{DataFile, Walk};
 use sasi_host::{Direct, FileName, Host, ReadFault};
 use sasi_manifest::ListedFile;
 use sasi_memtable::Memtable;
-use sasi_merge::{Head, Heads, Merge};
-use sasi_types::{Key, TypeList};
+use sasi_merge::{Head, Heads, add_head, has_key};
+use sasi_types::{DecoratedKey, TypeList};
 use std::alloc::{AllocError, Global};
 
 /// Opens the listed data files of a table with these types, and reads the head of each.
@@ -75,22 +75,21 @@ fn open_source<H: Host>(
     ensures changes { Changes Same (H.view host.old) (H.view host.new) }
     ensures causes { ReadCost 2055 (H.view host.old) (H.view host.new) result }
 {
-    let scan = open_file(alloc, host, file, types)?;
-    let mut source = Source::File(scan);
-    let head = source.next(alloc, host)?;
-    push(heads, sources, head, source)?;
+    let mut scan = open_file(alloc, host, file, types)?;
+    let head = next_in_file(alloc, host, &mut scan)?;
+    push(heads, sources, head, Source::File(scan))?;
     Ok(())
 }
 
 // Adds a source with its head.
-fn push<'a>(
+fn push(
     heads: &mut Heads,
-    sources: &mut Vec<Source<'a>>,
+    sources: &mut Vec<Source>,
     head: Head,
-    source: Source<'a>,
+    source: Source,
 ) -> Result<(), AllocError>
     ensures heads { OnOk result (heads.new ≡ heads.old ++ head ∷ []) }
-    ensures sources { OnOk result (sources.new.items ≡ sources.old.items ++ source.entry ∷ []) }
+    ensures sources { OnOk result (sources.new.items ≡ sources.old.items ++ source ∷ []) }
 {
     heads.push(head)?;
     sources.push(source)?;
@@ -118,83 +117,75 @@ fn open_file<H: Host>(
 }
 
 /// Adds maps in memory, with the head of each.
-pub fn add_maps<'a>(
+pub fn add_maps(
     alloc: Global,
-    maps: &'a [Memtable],
+    maps: &[Memtable],
     heads: &mut Heads,
-    sources: &mut Vec<Source<'a>>,
+    sources: &mut Vec<Source>,
 ) -> Result<(), AllocError>
-    ensures heads { OnOk result (heads.new ≡ heads.old ++ map_list (λ m. head_of (map_.entries m.partitions)) maps.now) }
-    ensures sources { OnOk result (sources.new.items ≡ sources.old.items ++ map_list (λ m. Map (behind (map_.entries m.partitions))) maps.now) }
+    ensures heads { OnOk result (heads.new ≡ heads.old ++ map_heads maps.now) }
+    ensures sources { OnOk result (sources.new.items ≡ sources.old.items ++ map_sources 0 maps.now) }
 {
-    for map in maps {
-        add_map(alloc, map, heads, sources)?;
+    for position in 0..maps.len() {
+        let head = head_after(alloc, maps, position, None)?;
+        push(heads, sources, head, Source::Map(position))?;
     }
     Ok(())
 }
 
-// Adds a map in memory, with its head.
-fn add_map<'a>(
-    alloc: Global,
-    memtable: &'a Memtable,
-    heads: &mut Heads,
-    sources: &mut Vec<Source<'a>>,
-) -> Result<(), AllocError>
-    ensures heads { OnOk result (heads.new ≡ heads.old ++ head_of (map_.entries memtable.now.partitions) ∷ []) }
-    ensures sources { OnOk result (sources.new.items ≡ sources.old.items ++ Map (behind (map_.entries memtable.now.partitions)) ∷ []) }
-{
-    let mut scan = MapScan::new(memtable);
-    let head = scan.next(alloc)?;
-    push(heads, sources, head, Source::Map(scan))
-}
-
-/// Moves each source whose head has the key that was given last.
+/// Moves each source whose head has the key, and merges what the heads had of it, the oldest first.
 pub fn advance<H: Host>(
     alloc: Global,
     host: &mut H,
-    merge: &Merge,
-    key: &Key,
+    maps: &[Memtable],
+    key: &DecoratedKey,
+    part: &mut Partition,
     heads: &mut Heads,
     sources: &mut Vec<Source>,
 ) -> Result<(), ReadFault>
-    requires can { AllByRecursion (CanStep (H.view host.old).files) sources.old.items }
+    requires unmerged { part.old ≡ empty_partition }
+    requires can { AllByRecursion (CanStep (H.view host.old).files maps.now) sources.old.items }
     requires counted { length heads.old ≡ length sources.old.items }
-    ensures moved { OnOk result (AreMoved (H.view host.old).files (with_token merge.now key.now) (length sources.old.items) heads.old sources.old.items heads.new sources.new.items) }
+    ensures moved { OnOk result (AreMoved (H.view host.old).files maps.now key.now (length sources.old.items) heads.old sources.old.items heads.new sources.new.items) }
+    ensures merged { OnOk result (part.new ≡ merged_part key.now heads.old) }
     ensures reads { (partitioner : Partitioner) → MovesWithin (H.view host.old).files partitioner sources.old.items sources.new.items (H.view host.old).reads (H.view host.new).reads result }
     ensures damaged { (files : List AListedFile) (types : List ColumnType) → AllByRecursion (IsListedSource (H.view host.old).files files types) sources.old.items → IfErr result (OnDamage (ShowsListed (H.view host.old).files files types)) }
-    ensures undamaged { (partitioner : Partitioner) (lefts : List Entries) → AreLeft (H.view host.old).files partitioner heads.old sources.old.items lefts → IfErr result (OnDamage (λ _. ⊥)) }
+    ensures undamaged { (partitioner : Partitioner) (lefts : List Entries) → AreLeft (H.view host.old).files partitioner maps.now heads.old sources.old.items lefts → IfErr result (OnDamage (λ _. ⊥)) }
     ensures changes { Changes Same (H.view host.old) (H.view host.new) }
     ensures causes { ScanCauses (H.view host.old) (H.view host.new) result }
 {
     for at in 0..sources.len() {
-        advance_at(alloc, host, merge, key, heads, sources, at)?;
+        let head = advance_at(alloc, host, maps, key, heads, sources, at)?;
+        add_head(part, head)?;
     }
     Ok(())
 }
 
-// Moves the source at this position, if its head has the key.
+// Moves the source at this position, if its head has the key, and gives the head that it had.
 fn advance_at<H: Host>(
     alloc: Global,
     host: &mut H,
-    merge: &Merge,
-    key: &Key,
+    maps: &[Memtable],
+    key: &DecoratedKey,
     heads: &mut Heads,
     sources: &mut Vec<Source>,
     at: usize,
-) -> Result<(), ReadFault>
-    requires can { AllByRecursion (CanStep (H.view host.old).files) sources.old.items }
+) -> Result<Head, ReadFault>
+    requires can { AllByRecursion (CanStep (H.view host.old).files maps.now) sources.old.items }
     requires in_heads { at < length heads.old }
     requires in_sources { at < length sources.old.items }
-    ensures moved { OnOk result (IsMovedAt (H.view host.old).files (with_token merge.now key.now) at heads.old sources.old.items heads.new sources.new.items) }
+    ensures moved { OnOk result (IsMovedAt (H.view host.old).files maps.now key.now at heads.old sources.old.items heads.new sources.new.items) }
+    ensures head { IfOk result (λ given. (head : AHead) → slice_get heads.old at ≡ Some head → given ≡ head_with key.now head) }
     ensures reads { (partitioner : Partitioner) → MovesWithin (H.view host.old).files partitioner sources.old.items sources.new.items (H.view host.old).reads (H.view host.new).reads result }
     ensures damaged { IfErr result (λ f. (source : ASource) → slice_get sources.old.items at ≡ Some source → ShowsSource (H.view host.old).files source f) }
     ensures undamaged { IfErr result (λ f. (source : ASource) → slice_get sources.old.items at ≡ Some source → NoFalseSourceDamage (H.view host.old).files source f) }
     ensures changes { Changes Same (H.view host.old) (H.view host.new) }
     ensures causes { ReadCost 2052 (H.view host.old) (H.view host.new) result }
 {
-    if merge.has_given(key, &heads.as_slice()[at]) {
-        let head = sources[at].next(alloc, host)?;
-        heads.replace(at, head);
+    if has_key(&heads.as_slice()[at], key.token, &key.key) {
+        let head = sources[at].next(alloc, host, maps, key)?;
+        Ok(heads.exchange(at, head))
+    } else {
+        Ok(None)
     }
-    Ok(())
 }

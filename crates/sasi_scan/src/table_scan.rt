@@ -10,7 +10,6 @@ ghost use Rattle.sasi_host.specs.Names.{data_name};
 ghost use Rattle.sasi_host.specs.View.{IsThere};
 ghost use Rattle.sasi_datawrite.specs.Format.{Content};
 ghost use Rattle.sasi_manifest.specs.declared.files.ListedFile.{ListedFile as AListedFile};
-ghost use Rattle.sasi_memtable.specs.MemtableView.{MemtableView};
 ghost use Rattle.sasi_merge.specs.Streams.{Entries};
 ghost use Rattle.sasi_scan.specs.Parts.{AreContents, IsMergeOfParts, ShowsListed, merged_parts};
 ghost use Rattle.sasi_scan.specs.Paging.{table_reads};
@@ -22,20 +21,20 @@ use sasi_cells::Partition;
 use sasi_host::{Host, ReadFault};
 use sasi_manifest::ListedFile;
 use sasi_memtable::Memtable;
-use sasi_merge::{Heads, Merge};
+use sasi_merge::Heads;
 use sasi_types::{Key, TypeList};
 use std::alloc::Global;
 use std::marker::Model;
 
 /// A scan of the merge of a table's parts, in the order of the decorated keys. Of each part it has one partition in memory at a
-/// time, and of a data file two pages.
+/// time, and of a data file two pages. It has no hold on the maps: of each it has the position, and takes them at each call.
 #[derive(Drop)]
-pub struct TableScan<'a> {
+pub struct TableScan {
     heads: Heads,
-    sources: Vec<Source<'a>>,
+    sources: Vec<Source>,
 }
 
-impl<'a> Model for TableScan<'a> {
+impl Model for TableScan {
     ghost use Rattle.sasi_scan.specs.Codes.{coded_scan};
     ghost use Rattle.sasi_scan.specs.Scanning.{ScanView};
 
@@ -46,20 +45,20 @@ impl<'a> Model for TableScan<'a> {
     ghost view = { λ a. record { heads = a.heads; sources = a.sources.items } };
 }
 
-impl<'a> TableScan<'a> {
+impl TableScan {
     /// A scan of listed data files of a table with these types, and of maps in memory, the oldest first.
     pub fn open<H: Host>(
         alloc: Global,
         host: &mut H,
         files: &[ListedFile],
         types: &TypeList,
-        maps: &'a [Memtable],
-    ) -> Result<TableScan<'a>, ReadFault>
+        maps: &[Memtable],
+    ) -> Result<TableScan, ReadFault>
         requires { AllByRecursion (λ (f : AListedFile). IsThere (H.view host.old) (data_name f.number)) files.now }
         // The whole merge is left.
         ensures opened { IfOk result (λ scan. (partitioner : Partitioner) (contents : List Content) → AreContents (H.view host.old).files partitioner types.now files.now contents
-            → IsScanning (H.view host.old).files partitioner scan (map_.entries (merged_parts partitioner contents maps.now))) }
-        ensures can { IfOk result (CanScan (H.view host.new).files) }
+            → IsScanning (H.view host.old).files partitioner maps.now scan (map_.entries (merged_parts partitioner contents maps.now))) }
+        ensures can { IfOk result (CanScan (H.view host.new).files maps.now) }
         ensures is_of { IfOk result (IsScanOf (H.view host.old).files files.now types.now maps.now) }
         // What it reads and what is left to read are each page of the data files twice at most, and three pages more of each.
         ensures reads { (partitioner : Partitioner) (contents : List Content) → AreContents (H.view host.old).files partitioner types.now files.now contents
@@ -76,26 +75,28 @@ impl<'a> TableScan<'a> {
         Ok(TableScan { heads, sources })
     }
 
-    /// The next key with its merged partition; None exactly at the end. After an error the scan isn't used.
+    /// The next key with its merged partition; None exactly at the end. The maps are those with which the scan was opened. After an
+    /// error the scan isn't used.
     pub fn next<H: Host>(
         &mut self,
         alloc: Global,
         host: &mut H,
+        maps: &[Memtable],
     ) -> Result<Option<(Key, Partition)>, ReadFault>
-        requires { CanScan (H.view host.old).files self.old }
-        ensures next { IfOk result (λ found. (partitioner : Partitioner) (left : Entries) → IsScanning (H.view host.old).files partitioner self.old left → GivesFirst (H.view host.old).files partitioner left self.new found) }
+        requires { CanScan (H.view host.old).files maps.now self.old }
+        ensures next { IfOk result (λ found. (partitioner : Partitioner) (left : Entries) → IsScanning (H.view host.old).files partitioner maps.now self.old left → GivesFirst (H.view host.old).files partitioner maps.now left self.new found) }
         // In any file what is given of a key is the merge of what the parts have of it.
-        ensures of_parts { (files : List AListedFile) (types : List ColumnType) (maps : List MemtableView) → IsScanOf (H.view host.old).files files types maps self.old → IfOk result (λ found. IfSome found (λ one. IsMergeOfParts types maps one.0 one.1)) }
-        ensures can { OnOk result (CanScan (H.view host.new).files self.new) }
-        ensures is_of { (files : List AListedFile) (types : List ColumnType) (maps : List MemtableView) → IsScanOf (H.view host.old).files files types maps self.old → OnOk result (IsScanOf (H.view host.old).files files types maps self.new) }
+        ensures of_parts { (files : List AListedFile) (types : List ColumnType) → IsScanOf (H.view host.old).files files types maps.now self.old → IfOk result (λ found. IfSome found (λ one. IsMergeOfParts types maps.now one.0 one.1)) }
+        ensures can { OnOk result (CanScan (H.view host.new).files maps.now self.new) }
+        ensures is_of { (files : List AListedFile) (types : List ColumnType) → IsScanOf (H.view host.old).files files types maps.now self.old → OnOk result (IsScanOf (H.view host.old).files files types maps.now self.new) }
         ensures reads { (partitioner : Partitioner) (most : ℕ) → MayRead (H.view host.old).files partitioner self.old most
             → MatchResult result (λ _. HasReadsLeft (H.view host.old).files partitioner self.new ((H.view host.old).reads + most) (H.view host.new).reads) (λ _. (H.view host.new).reads ≤ (H.view host.old).reads + most) }
-        ensures damaged { (files : List AListedFile) (types : List ColumnType) (maps : List MemtableView) → IsScanOf (H.view host.old).files files types maps self.old → IfErr result (OnDamage (ShowsListed (H.view host.old).files files types)) }
-        ensures undamaged { (partitioner : Partitioner) (left : Entries) → IsScanning (H.view host.old).files partitioner self.old left → IfErr result (OnDamage (λ _. ⊥)) }
+        ensures damaged { (files : List AListedFile) (types : List ColumnType) → IsScanOf (H.view host.old).files files types maps.now self.old → IfErr result (OnDamage (ShowsListed (H.view host.old).files files types)) }
+        ensures undamaged { (partitioner : Partitioner) (left : Entries) → IsScanning (H.view host.old).files partitioner maps.now self.old left → IfErr result (OnDamage (λ _. ⊥)) }
         ensures changes { Changes Same (H.view host.old) (H.view host.new) }
         ensures causes { ScanCauses (H.view host.old) (H.view host.new) result }
     {
-        next_of(alloc, host, &mut self.heads, &mut self.sources)
+        next_of(alloc, host, maps, &mut self.heads, &mut self.sources)
     }
 }
 
@@ -103,27 +104,28 @@ impl<'a> TableScan<'a> {
 fn next_of<H: Host>(
     alloc: Global,
     host: &mut H,
+    maps: &[Memtable],
     heads: &mut Heads,
     sources: &mut Vec<Source>,
 ) -> Result<Option<(Key, Partition)>, ReadFault>
-    requires { CanScan (H.view host.old).files (scan_of heads.old sources.old.items) }
-    ensures next { IfOk result (λ found. (partitioner : Partitioner) (left : Entries) → IsScanning (H.view host.old).files partitioner (scan_of heads.old sources.old.items) left → GivesFirst (H.view host.old).files partitioner left (scan_of heads.new sources.new.items) found) }
-    ensures of_parts { (files : List AListedFile) (types : List ColumnType) (maps : List MemtableView) → IsScanOf (H.view host.old).files files types maps (scan_of heads.old sources.old.items) → IfOk result (λ found. IfSome found (λ one. IsMergeOfParts types maps one.0 one.1)) }
-    ensures can { OnOk result (CanScan (H.view host.new).files (scan_of heads.new sources.new.items)) }
-    ensures is_of { (files : List AListedFile) (types : List ColumnType) (maps : List MemtableView) → IsScanOf (H.view host.old).files files types maps (scan_of heads.old sources.old.items) → OnOk result (IsScanOf (H.view host.old).files files types maps (scan_of heads.new sources.new.items)) }
+    requires { CanScan (H.view host.old).files maps.now (scan_of heads.old sources.old.items) }
+    ensures next { IfOk result (λ found. (partitioner : Partitioner) (left : Entries) → IsScanning (H.view host.old).files partitioner maps.now (scan_of heads.old sources.old.items) left → GivesFirst (H.view host.old).files partitioner maps.now left (scan_of heads.new sources.new.items) found) }
+    ensures of_parts { (files : List AListedFile) (types : List ColumnType) → IsScanOf (H.view host.old).files files types maps.now (scan_of heads.old sources.old.items) → IfOk result (λ found. IfSome found (λ one. IsMergeOfParts types maps.now one.0 one.1)) }
+    ensures can { OnOk result (CanScan (H.view host.new).files maps.now (scan_of heads.new sources.new.items)) }
+    ensures is_of { (files : List AListedFile) (types : List ColumnType) → IsScanOf (H.view host.old).files files types maps.now (scan_of heads.old sources.old.items) → OnOk result (IsScanOf (H.view host.old).files files types maps.now (scan_of heads.new sources.new.items)) }
     ensures reads { (partitioner : Partitioner) (most : ℕ) → MayRead (H.view host.old).files partitioner (scan_of heads.old sources.old.items) most
         → MatchResult result (λ _. HasReadsLeft (H.view host.old).files partitioner (scan_of heads.new sources.new.items) ((H.view host.old).reads + most) (H.view host.new).reads) (λ _. (H.view host.new).reads ≤ (H.view host.old).reads + most) }
-    ensures damaged { (files : List AListedFile) (types : List ColumnType) (maps : List MemtableView) → IsScanOf (H.view host.old).files files types maps (scan_of heads.old sources.old.items) → IfErr result (OnDamage (ShowsListed (H.view host.old).files files types)) }
-    ensures undamaged { (partitioner : Partitioner) (left : Entries) → IsScanning (H.view host.old).files partitioner (scan_of heads.old sources.old.items) left → IfErr result (OnDamage (λ _. ⊥)) }
+    ensures damaged { (files : List AListedFile) (types : List ColumnType) → IsScanOf (H.view host.old).files files types maps.now (scan_of heads.old sources.old.items) → IfErr result (OnDamage (ShowsListed (H.view host.old).files files types)) }
+    ensures undamaged { (partitioner : Partitioner) (left : Entries) → IsScanning (H.view host.old).files partitioner maps.now (scan_of heads.old sources.old.items) left → IfErr result (OnDamage (λ _. ⊥)) }
     ensures changes { Changes Same (H.view host.old) (H.view host.new) }
     ensures causes { ScanCauses (H.view host.old) (H.view host.new) result }
 {
-    let mut merge = Merge::new();
-    match merge.next(alloc, heads)? {
+    match heads.least_key(alloc)? {
         None => Ok(None),
-        Some((key, part)) => {
-            advance(alloc, host, &merge, &key, heads, sources)?;
-            Ok(Some((key, part)))
+        Some(key) => {
+            let mut part = Partition::new(alloc);
+            advance(alloc, host, maps, &key, &mut part, heads, sources)?;
+            Ok(Some((key.key, part)))
         }
     }
 }

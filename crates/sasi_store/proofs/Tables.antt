@@ -19,7 +19,7 @@ use Rattle.sasi_host.specs.Names.{Folder}
 use Rattle.sasi_datawrite.specs.Format.{Content, decorated_key}
 use Rattle.sasi_manifest.specs.declared.files.ListedFile.{ListedFile}
 use Rattle.sasi_memtable.specs.MemtableView.{AreDecorated, MemtableView}
-use Rattle.sasi_layout.specs.Layout.{File, TableParts, parts, table_of}
+use Rattle.sasi_layout.specs.Layout.{File, TableParts, table_of}
 use Rattle.sasi_layout.specs.Shape.{HasFile, map_of}
 use Rattle.sasi_scan.specs.Finding.{file_maps, key_reads}
 use Rattle.sasi_scan.specs.Parts.{AreContents, entries_of, merged_parts}

@@ -22,10 +22,9 @@ pub record IsPrintable (kind : ColumnType) (key : List ℕ) (part : Partition) :
   pub texts : HasTexts part
 
 -- the scan is one of a table whose keys have this type, in its files and in memory
-pub record ScansTable (seen : Option Folder) (kind : ColumnType) (scan : ScanView) : Type 0 where
+pub record ScansTable (seen : Option Folder) (kind : ColumnType) (maps : List MemtableView) (scan : ScanView) : Type 0 where
   pub files : List ListedFile
   pub types : List ColumnType
-  pub maps : List MemtableView
   pub is_of : IsScanOf seen files types maps scan
   pub key : slice_get types 0 ≡ Some kind
   pub stored : AllByRecursion (λ (m : MemtableView). AreStored kind m.partitions) maps

@@ -63,7 +63,7 @@ pub fn print_table<H: Host>(
     ensures causes { ScanCauses (H.view host.old) (H.view host.new) result }
 {
     let mut scan = TableScan::open(alloc, host, files, types, maps)?;
-    let rows = print_scan(alloc, host, kit, &mut scan, query, reply)?;
+    let rows = print_scan(alloc, host, kit, maps, &mut scan, query, reply)?;
     reply.count(rows)?;
     Ok(())
 }
@@ -73,17 +73,18 @@ fn print_scan<H: Host>(
     alloc: Global,
     host: &mut H,
     kit: &mut Kit,
+    maps: &[Memtable],
     scan: &mut TableScan,
     query: &RowQuery,
     reply: &mut Reply,
 ) -> Result<u64, ReadFault>
-    requires can { CanScan (H.view host.old).files scan.old }
-    requires table { ScansTable (H.view host.old).files query.now.picked.key scan.old }
+    requires can { CanScan (H.view host.old).files maps.now scan.old }
+    requires table { ScansTable (H.view host.old).files query.now.picked.key maps.now scan.old }
     requires known { KnowsWhere (map_list (λ b. kind (b.vtable, b.value)) kit.old.objects.items) query.now.filter }
-    ensures ok { IfOk result (λ rows. (partitioner : Partitioner) (left : Entries) → IsScanning (H.view host.old).files partitioner scan.old left → ArePrinted (asked_rows query.now left) reply.old reply.new rows) }
+    ensures ok { IfOk result (λ rows. (partitioner : Partitioner) (left : Entries) → IsScanning (H.view host.old).files partitioner maps.now scan.old left → ArePrinted (asked_rows query.now left) reply.old reply.new rows) }
     ensures reads { (partitioner : Partitioner) (most : ℕ) → MayRead (H.view host.old).files partitioner scan.old most → (H.view host.new).reads ≤ (H.view host.old).reads + most }
-    ensures damaged { (files : List AListedFile) (types : List ColumnType) (maps : List MemtableView) → IsScanOf (H.view host.old).files files types maps scan.old → IfErr result (OnDamage (ShowsListed (H.view host.old).files files types)) }
-    ensures undamaged { (partitioner : Partitioner) (left : Entries) → IsScanning (H.view host.old).files partitioner scan.old left → IfErr result (OnDamage (λ _. ⊥)) }
+    ensures damaged { (files : List AListedFile) (types : List ColumnType) → IsScanOf (H.view host.old).files files types maps.now scan.old → IfErr result (OnDamage (ShowsListed (H.view host.old).files files types)) }
+    ensures undamaged { (partitioner : Partitioner) (left : Entries) → IsScanning (H.view host.old).files partitioner maps.now scan.old left → IfErr result (OnDamage (λ _. ⊥)) }
     ensures changes { Changes Same (H.view host.old) (H.view host.new) }
     ensures kinds { map_list (λ b. kind (b.vtable, b.value)) kit.new.objects.items ≡ map_list (λ b. kind (b.vtable, b.value)) kit.old.objects.items }
     ensures causes { ScanCauses (H.view host.old) (H.view host.new) result }
@@ -93,7 +94,7 @@ fn print_scan<H: Host>(
         if query.is_full(rows) {
             return Ok(rows);
         }
-        match scan.next(alloc, host)? {
+        match scan.next(alloc, host, maps)? {
             None => return Ok(rows),
             Some((key, part)) => {
                 let printed = print_row(alloc, kit, &key, &part, query, reply)?;

@@ -1,14 +1,22 @@
+use Rattle.std.proofs.Common.{◌<◌, length, arith}
 use Rattle.sasi_scan.proofs.Openings.{map_next_head, map_next_source, maps_end_heads, maps_end_sources}
 use Rattle.sasi_scan.proofs.sources.add_maps.Goals as goal
 
-pub loop-map-preserved : goal.loop-map-preserved
-loop-map-preserved c = record {
-  heads = map_next_head c.args.maps.now c.loop-map.map-index c.map-item.result c.loop-map.heads c.add_map.new.heads _ c.loop-map-test.true c.map-item.is c.in_ok-add_map.ensures.heads c.loop-map.invariant.heads;
-  sources = map_next_source c.args.maps.now c.loop-map.map-index c.map-item.result c.loop-map.sources.items c.add_map.new.sources.items _ c.loop-map-test.true c.map-item.is c.in_ok-add_map.ensures.sources c.loop-map.invariant.sources;
-}
+pub head_after-requires : goal.head_after-requires
+head_after-requires c = omega (arith, c.loop-position.invariant.end, c.loop-position-test.true)
+
+pub loop-position-preserved : goal.loop-position-preserved
+loop-position-preserved c =
+    let on = c.loop-position.invariant in
+    let inside : c.loop-position.position < length c.args.maps.now = omega (arith, on.end, c.loop-position-test.true) in
+    record {
+      heads = map_next_head c.args.maps.now c.loop-position.position inside c.in_ok-head.head c.loop-position.heads c.push.new.heads _ c.in_ok-head.ensures c.in_ok-push.ensures.heads on.heads;
+      sources = map_next_source c.args.maps.now c.loop-position.position inside c.loop-position.sources.items c.push.new.sources.items _ c.in_ok-push.ensures.sources on.sources;
+      end = on.end;
+    }
 
 pub returns-clause-heads : goal.returns-clause-heads
-returns-clause-heads c = maps_end_heads c.args.maps.now c.loop-map.map-index c.loop-map.heads _ c.loop-map-test.false c.loop-map.invariant.heads
+returns-clause-heads c = maps_end_heads c.args.maps.now c.loop-position.position c.loop-position.heads _ (omega (arith, c.loop-position.invariant.end, c.loop-position-test.false)) c.loop-position.invariant.heads
 
 pub returns-clause-sources : goal.returns-clause-sources
-returns-clause-sources c = maps_end_sources c.args.maps.now c.loop-map.map-index c.loop-map.sources.items _ c.loop-map-test.false c.loop-map.invariant.sources
+returns-clause-sources c = maps_end_sources c.args.maps.now c.loop-position.position c.loop-position.sources.items _ (omega (arith, c.loop-position.invariant.end, c.loop-position-test.false)) c.loop-position.invariant.sources

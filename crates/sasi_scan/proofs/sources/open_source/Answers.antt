@@ -4,7 +4,7 @@ use Rattle.sasi_host.proofs.ChangeLaws.{then_same}
 use Rattle.sasi_host.proofs.CauseLaws.{fault_reads, ok_reads, reads_on}
 use Rattle.sasi_host.specs.Disk.{Same}
 use Rattle.sasi_host.specs.Names.{Folder}
-use Rattle.sasi_scan.specs.Sources.{CanStep, NoFalseSourceDamage, ShowsSource}
+use Rattle.sasi_scan.specs.Sources.{CanWalk, NoFalseSourceDamage, ShowsSource}
 use Rattle.sasi_scan.specs.declared.source.Source.TheVariants.{File}
 use Rattle.sasi_scan.proofs.Pages.{open_reads, open_stops}
 use Rattle.sasi_scan.proofs.Costs.{reads_same}
@@ -12,10 +12,10 @@ use Rattle.sasi_scan.proofs.Openings.{added_file}
 use Rattle.sasi_scan.proofs.Steps.{first_shown, no_false_first}
 use Rattle.sasi_scan.proofs.sources.open_source.Goals as goal
 
-pub next-requires : goal.next-requires
-next-requires g c =
+pub next_in_file-requires : goal.next_in_file-requires
+next_in_file-requires g c =
     let view = g.H.Host.view in
-    subst (λ (o : Option Folder). CanStep o (File c.in_ok-scan.scan)) (sym (reads_same (view c.args.host.now) (view c.open_file.new.host) c.open_file.ensures.changes)) c.in_ok-scan.ensures.opened.can
+    subst (λ (o : Option Folder). CanWalk o c.in_ok-scan.scan) (sym (reads_same (view c.args.host.now) (view c.open_file.new.host) c.open_file.ensures.changes)) c.in_ok-scan.ensures.opened.can
 
 pub returns-in_err-head-clause-damaged : goal.returns-in_err-head-clause-damaged
 returns-in_err-head-clause-damaged g c =
@@ -36,7 +36,7 @@ returns-in_err-head-clause-undamaged g c =
     (subst (λ (o : Option Folder). NoFalseSourceDamage o (File c.in_ok-scan.scan) f) (reads_same v (view c.open_file.new.host) c.open_file.ensures.changes) c.in_err-head.ensures.undamaged))
 
 pub returns-in_err-head-clause-changes : goal.returns-in_err-head-clause-changes
-returns-in_err-head-clause-changes g c = then_same _ _ _ Same c.open_file.ensures.changes c.next.ensures.changes
+returns-in_err-head-clause-changes g c = then_same _ _ _ Same c.open_file.ensures.changes c.next_in_file.ensures.changes
 
 pub returns-in_err-head-clause-causes : goal.returns-in_err-head-clause-causes
 returns-in_err-head-clause-causes g c =
@@ -44,16 +44,16 @@ returns-in_err-head-clause-causes g c =
     rw (p.1, p.2) (fault_reads _ _ 2055 2055 c.in_err-head.field-0.0 (omega arith) (reads_on _ _ _ 3 2052 2055 _ (Err c.in_err-head.field-0.0) (omega arith) c.in_ok-scan.ensures.causes c.in_err-head.ensures.causes))
 
 pub returns-in_err-push-clause-changes : goal.returns-in_err-push-clause-changes
-returns-in_err-push-clause-changes g c = then_same _ _ _ Same c.open_file.ensures.changes c.next.ensures.changes
+returns-in_err-push-clause-changes g c = then_same _ _ _ Same c.open_file.ensures.changes c.next_in_file.ensures.changes
 
 pub returns-clause-opened : goal.returns-clause-opened
 returns-clause-opened g c =
     let view = g.H.Host.view in
-    added_file (view c.args.host.now) (view c.open_file.new.host) c.args.types.now c.args.file.now c.in_ok-scan.scan c.in_ok-head.head c.next.new.self c.args.heads.now c.args.sources.now.items _ _
+    added_file (view c.args.host.now) (view c.open_file.new.host) c.args.types.now c.args.file.now c.in_ok-scan.scan c.in_ok-head.head c.next_in_file.new.scan c.args.heads.now c.args.sources.now.items _ _
     c.open_file.ensures.changes c.in_ok-scan.ensures.opened c.in_ok-head.ensures.steps c.in_ok-push.ensures.heads c.in_ok-push.ensures.sources
 
 pub returns-clause-changes : goal.returns-clause-changes
-returns-clause-changes g c = then_same _ _ _ Same c.open_file.ensures.changes c.next.ensures.changes
+returns-clause-changes g c = then_same _ _ _ Same c.open_file.ensures.changes c.next_in_file.ensures.changes
 
 pub returns-clause-causes : goal.returns-clause-causes
 returns-clause-causes g c = ok_reads _ _ 2055 _ _ (reads_on _ _ _ 3 2052 2055 _ _ (omega arith) c.in_ok-scan.ensures.causes c.in_ok-head.ensures.causes)
@@ -61,7 +61,7 @@ returns-clause-causes g c = ok_reads _ _ 2055 _ _ (reads_on _ _ _ 3 2052 2055 _ 
 pub returns-clause-reads : goal.returns-clause-reads
 returns-clause-reads g c p content has paged =
     let view = g.H.Host.view in
-    open_reads (view c.args.host.now) (view c.open_file.new.host) (view c.next.new.host) p c.args.types.now c.args.file.now content c.in_ok-scan.scan c.next.new.self c.args.sources.now.items _
+    open_reads (view c.args.host.now) (view c.open_file.new.host) (view c.next_in_file.new.host) p c.args.types.now c.args.file.now content c.in_ok-scan.scan (File c.next_in_file.new.scan) c.args.sources.now.items _
     c.open_file.ensures.changes c.in_ok-scan.ensures.opened has c.in_ok-scan.ensures.causes.reads (c.in_ok-head.ensures.reads p) c.in_ok-push.ensures.sources paged
 
 pub returns-in_err-scan-clause-reads : goal.returns-in_err-scan-clause-reads
@@ -73,12 +73,12 @@ pub returns-in_err-head-clause-reads : goal.returns-in_err-head-clause-reads
 returns-in_err-head-clause-reads g c p content has paged =
     let view = g.H.Host.view in
     let q = err_from_is_err_and c.from_residual-in_err-head.result c.from_residual-in_err-head.ensures.1 in
-    rw q.1 (open_stops (view c.args.host.now) (view c.open_file.new.host) (view c.next.new.host) p c.args.types.now c.args.file.now content c.in_ok-scan.scan c.next.new.self c.next.result
-    c.open_file.ensures.changes c.in_ok-scan.ensures.opened has c.in_ok-scan.ensures.causes.reads (c.next.ensures.reads p))
+    rw q.1 (open_stops (view c.args.host.now) (view c.open_file.new.host) (view c.next_in_file.new.host) p c.args.types.now c.args.file.now content c.in_ok-scan.scan (File c.next_in_file.new.scan) c.next_in_file.result
+    c.open_file.ensures.changes c.in_ok-scan.ensures.opened has c.in_ok-scan.ensures.causes.reads (c.next_in_file.ensures.reads p))
 
 pub returns-in_err-push-clause-reads : goal.returns-in_err-push-clause-reads
 returns-in_err-push-clause-reads g c p content has paged =
     let view = g.H.Host.view in
     let q = err_from_is_err_and c.from_residual-in_err-push.result c.from_residual-in_err-push.ensures.1 in
-    rw q.1 (open_stops (view c.args.host.now) (view c.open_file.new.host) (view c.next.new.host) p c.args.types.now c.args.file.now content c.in_ok-scan.scan c.next.new.self c.next.result
-    c.open_file.ensures.changes c.in_ok-scan.ensures.opened has c.in_ok-scan.ensures.causes.reads (c.next.ensures.reads p))
+    rw q.1 (open_stops (view c.args.host.now) (view c.open_file.new.host) (view c.next_in_file.new.host) p c.args.types.now c.args.file.now content c.in_ok-scan.scan (File c.next_in_file.new.scan) c.next_in_file.result
+    c.open_file.ensures.changes c.in_ok-scan.ensures.opened has c.in_ok-scan.ensures.causes.reads (c.next_in_file.ensures.reads p))

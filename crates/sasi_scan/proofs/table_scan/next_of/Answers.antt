@@ -1,20 +1,20 @@
-use Rattle.std.proofs.Common.{ℕ, List, Option, length, subst, sym, arith}
+use Rattle.std.proofs.Common.{Option, length, subst, sym, arith}
 use Rattle.std.proofs.lemmas.Result.{err_from_is_err_and}
 use Rattle.sasi_host.proofs.ChangeLaws.{stays}
 use Rattle.sasi_host.specs.Names.{Folder}
-use Rattle.sasi_model.specs.Cells.{Partition}
-use Rattle.sasi_merge.specs.Merging.{GivesLeast, with_token}
+use Rattle.sasi_merge.specs.Merging.{IsLeastKey}
+use Rattle.sasi_merge.proofs.LeastKeys.{gives_least}
 use Rattle.sasi_scan.specs.Scanning.{CanScan, scan_of}
 use Rattle.sasi_scan.proofs.Costs.{causes_of_fault, causes_ok, reads_same}
 use Rattle.sasi_scan.proofs.Moves.{least_of, moved_scan, next_given, none_given, still_of}
 use Rattle.sasi_scan.proofs.Pages.{moves_may, stays_may}
 use Rattle.sasi_scan.proofs.table_scan.next_of.Goals as goal
 
-pub returns-in_err-next-clause-changes : goal.returns-in_err-next-clause-changes
-returns-in_err-next-clause-changes g c = stays _
+pub returns-in_err-least_key-clause-changes : goal.returns-in_err-least_key-clause-changes
+returns-in_err-least_key-clause-changes g c = stays _
 
-pub returns-in_err-next-clause-reads : goal.returns-in_err-next-clause-reads
-returns-in_err-next-clause-reads g c p most may =
+pub returns-in_err-least_key-clause-reads : goal.returns-in_err-least_key-clause-reads
+returns-in_err-least_key-clause-reads g c p most may =
     let q = err_from_is_err_and c.from_residual.result c.from_residual.ensures.1 in
     rw q.1 (omega arith)
 
@@ -22,8 +22,8 @@ returns-in_err-next-clause-reads g c p most may =
 
 pub returns-in-None-clause-next : goal.returns-in-None-clause-next
 returns-in-None-clause-next g c partitioner left on =
-    none_given (g.H.Host.view c.args.host.now).files partitioner c.args.heads.now c.args.sources.now.items left on c.next.new.self
-    (subst (λ (o : Option (List ℕ × Partition)). GivesLeast c.args.heads.now c.next.new.self o) c.in-None.is c.in_ok-next.ensures)
+    none_given (g.H.Host.view c.args.host.now).files partitioner c.args.maps.now c.args.heads.now c.args.sources.now.items left on 0
+    (subst (IsLeastKey c.args.heads.now) c.in-None.is c.in_ok-least_key.ensures)
 
 pub returns-in-None-clause-changes : goal.returns-in-None-clause-changes
 returns-in-None-clause-changes g c = stays _
@@ -35,23 +35,23 @@ returns-in-None-clause-reads g c p most may = stays_may (g.H.Host.view c.args.ho
 
 pub returns-in_ok-advance-in-Some-clause-next : goal.returns-in_ok-advance-in-Some-clause-next
 returns-in_ok-advance-in-Some-clause-next g c partitioner left on =
-    next_given (g.H.Host.view c.args.host.now).files partitioner c.args.heads.now c.args.sources.now.items left on c.advance.new.heads c.advance.new.sources.items c.next.new.self c.in-Some.key c.in-Some.part
-    (subst (λ (o : Option (List ℕ × Partition)). GivesLeast c.args.heads.now c.next.new.self o) c.in-Some.is c.in_ok-next.ensures) c.in_ok-advance-in-Some.ensures.moved
+    next_given (g.H.Host.view c.args.host.now).files partitioner c.args.maps.now c.args.heads.now c.args.sources.now.items left on c.advance.new.heads c.advance.new.sources.items c.in-Some.key.token c.in-Some.key.key c.advance.new.part
+    (gives_least c.args.heads.now c.in-Some.key c.advance.new.part (subst (IsLeastKey c.args.heads.now) c.in-Some.is c.in_ok-least_key.ensures) c.in_ok-advance-in-Some.ensures.merged) c.in_ok-advance-in-Some.ensures.moved
 
 pub returns-in_ok-advance-in-Some-clause-of_parts : goal.returns-in_ok-advance-in-Some-clause-of_parts
-returns-in_ok-advance-in-Some-clause-of_parts g c files types maps of =
-    least_of types maps c.args.heads.now c.next.new.self c.in-Some.key c.in-Some.part of.heads_of
-    (subst (λ (o : Option (List ℕ × Partition)). GivesLeast c.args.heads.now c.next.new.self o) c.in-Some.is c.in_ok-next.ensures)
+returns-in_ok-advance-in-Some-clause-of_parts g c files types of =
+    least_of types c.args.maps.now c.args.heads.now c.in-Some.key.token c.in-Some.key.key c.advance.new.part of.heads_of
+    (gives_least c.args.heads.now c.in-Some.key c.advance.new.part (subst (IsLeastKey c.args.heads.now) c.in-Some.is c.in_ok-least_key.ensures) c.in_ok-advance-in-Some.ensures.merged)
 
 pub returns-in_ok-advance-in-Some-clause-can : goal.returns-in_ok-advance-in-Some-clause-can
 returns-in_ok-advance-in-Some-clause-can g c =
     let view = g.H.Host.view in
-    subst (λ (o : Option Folder). CanScan o (scan_of c.advance.new.heads c.advance.new.sources.items)) (sym (reads_same (view c.args.host.now) (view c.advance.new.host) c.advance.ensures.changes))
-    (moved_scan (view c.args.host.now).files (with_token c.next.new.self c.in-Some.key) (length c.args.sources.now.items) c.args.heads.now c.args.sources.now.items c.advance.new.heads c.advance.new.sources.items c.in_ok-advance-in-Some.ensures.moved c.requires)
+    subst (λ (o : Option Folder). CanScan o c.args.maps.now (scan_of c.advance.new.heads c.advance.new.sources.items)) (sym (reads_same (view c.args.host.now) (view c.advance.new.host) c.advance.ensures.changes))
+    (moved_scan (view c.args.host.now).files c.args.maps.now c.in-Some.key (length c.args.sources.now.items) c.args.heads.now c.args.sources.now.items c.advance.new.heads c.advance.new.sources.items c.in_ok-advance-in-Some.ensures.moved c.requires)
 
 pub returns-in_ok-advance-in-Some-clause-is_of : goal.returns-in_ok-advance-in-Some-clause-is_of
-returns-in_ok-advance-in-Some-clause-is_of g c files types maps of =
-    still_of (g.H.Host.view c.args.host.now).files (with_token c.next.new.self c.in-Some.key) files types maps (length c.args.sources.now.items) c.args.heads.now c.args.sources.now.items c.advance.new.heads c.advance.new.sources.items c.in_ok-advance-in-Some.ensures.moved of
+returns-in_ok-advance-in-Some-clause-is_of g c files types of =
+    still_of (g.H.Host.view c.args.host.now).files c.args.maps.now c.in-Some.key files types (length c.args.sources.now.items) c.args.heads.now c.args.sources.now.items c.advance.new.heads c.advance.new.sources.items c.in_ok-advance-in-Some.ensures.moved c.requires of
 
 pub returns-in_ok-advance-in-Some-clause-reads : goal.returns-in_ok-advance-in-Some-clause-reads
 returns-in_ok-advance-in-Some-clause-reads g c p most may =
@@ -67,7 +67,7 @@ returns-in_ok-advance-in-Some-clause-causes g c = causes_ok _ _ _ c.in_ok-advanc
 -- ---- a source that failed
 
 pub returns-in_err-advance-in-Some-clause-damaged : goal.returns-in_err-advance-in-Some-clause-damaged
-returns-in_err-advance-in-Some-clause-damaged g c files types maps of =
+returns-in_err-advance-in-Some-clause-damaged g c files types of =
     let q = err_from_is_err_and c.from_residual-in_err-advance-in-Some.result c.from_residual-in_err-advance-in-Some.ensures.1 in
     rw (q.1, q.2) (c.in_err-advance-in-Some.ensures.damaged files types of.listed)
 

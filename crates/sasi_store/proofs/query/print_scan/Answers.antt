@@ -20,8 +20,8 @@ loop-turn-init g c =
     let v = g.H.Host.view c.args.host.now in
     record {
       can = c.requires.can;
-      printing = λ p left on. printing_begins v.files p c.args.query.now left c.args.scan.now c.args.reply.now on;
-      is_of = λ files types maps of. of;
+      printing = λ p left on. printing_begins v.files p c.args.maps.now c.args.query.now left c.args.scan.now c.args.reply.now on;
+      is_of = λ files types of. of;
       kinds = refl;
       few = omega arith;
       reads = λ p most may. stays_may v.files p c.args.scan.now most v.reads may;
@@ -38,7 +38,7 @@ next-requires g c = c.loop-turn.invariant.can
 pub returns-then-is_full-clause-ok : goal.returns-then-is_full-clause-ok
 returns-then-is_full-clause-ok g c p left scanning =
     let v = g.H.Host.view c.args.host.now in
-    printing_full v.files p c.args.query.now left c.loop-turn.scan c.args.reply.now c.loop-turn.reply c.loop-turn.rows (c.loop-turn.invariant.printing p left scanning) (sym c.is_full.ensures ∙ c.if-is_full.true)
+    printing_full v.files p c.args.maps.now c.args.query.now left c.loop-turn.scan c.args.reply.now c.loop-turn.reply c.loop-turn.rows (c.loop-turn.invariant.printing p left scanning) (sym c.is_full.ensures ∙ c.if-is_full.true)
 
 pub returns-then-is_full-clause-reads : goal.returns-then-is_full-clause-reads
 returns-then-is_full-clause-reads g c p most may = let so_far = c.loop-turn.invariant.reads p most may in omega (arith, so_far.reads)
@@ -52,14 +52,14 @@ returns-then-is_full-clause-causes g c = causes_ok _ _ _ c.loop-turn.invariant.d
 -- ---- a scan that fails
 
 pub returns-in_err-next-clause-damaged : goal.returns-in_err-next-clause-damaged
-returns-in_err-next-clause-damaged g c files types maps of =
+returns-in_err-next-clause-damaged g c files types of =
     let view = g.H.Host.view in
     let on = c.loop-turn.invariant in
     let same = reads_same (view c.args.host.now) (view c.loop-turn.host) on.changes in
     let f = c.in_err-next.field-0.0 in
     let q = err_from_is_err_and c.from_residual.result c.from_residual.ensures.1 in
     rw (q.1, q.2) (subst (λ (o : Option Folder). OnDamage (ShowsListed o files types) f) same
-    (c.in_err-next.ensures.damaged files types maps (subst (λ (o : Option Folder). IsScanOf o files types maps c.loop-turn.scan) (sym same) (on.is_of files types maps of))))
+    (c.in_err-next.ensures.damaged files types (subst (λ (o : Option Folder). IsScanOf o files types c.args.maps.now c.loop-turn.scan) (sym same) (on.is_of files types of))))
 
 pub returns-in_err-next-clause-undamaged : goal.returns-in_err-next-clause-undamaged
 returns-in_err-next-clause-undamaged g c p left scanning =
@@ -68,7 +68,7 @@ returns-in_err-next-clause-undamaged g c p left scanning =
     let printing = on.printing p left scanning in
     let q = err_from_is_err_and c.from_residual.result c.from_residual.ensures.1 in
     rw (q.1, q.2) (c.in_err-next.ensures.undamaged p printing.rest
-    (subst (λ (o : Option Folder). IsScanning o p c.loop-turn.scan printing.rest) (sym (reads_same (view c.args.host.now) (view c.loop-turn.host) on.changes)) printing.scanning))
+    (subst (λ (o : Option Folder). IsScanning o p c.args.maps.now c.loop-turn.scan printing.rest) (sym (reads_same (view c.args.host.now) (view c.loop-turn.host) on.changes)) printing.scanning))
 
 pub returns-in_err-next-clause-reads : goal.returns-in_err-next-clause-reads
 returns-in_err-next-clause-reads g c p most may =
@@ -97,9 +97,9 @@ returns-in-None-clause-ok g c p left scanning =
     let v = view c.args.host.now in
     let printing = on.printing p left scanning in
     let w = view c.loop-turn.host in
-    let end = c.in_ok-next.ensures.next p printing.rest (subst (λ (o : Option Folder). IsScanning o p c.loop-turn.scan printing.rest) (sym (reads_same v w on.changes)) printing.scanning) in
-    printing_ends v.files p c.args.query.now left c.loop-turn.scan c.args.reply.now c.loop-turn.reply c.loop-turn.rows printing
-    (subst (λ (o : Option (List ℕ × Partition)). GivesFirst w.files p printing.rest c.next.new.self o) c.in-None.is end).0
+    let end = c.in_ok-next.ensures.next p printing.rest (subst (λ (o : Option Folder). IsScanning o p c.args.maps.now c.loop-turn.scan printing.rest) (sym (reads_same v w on.changes)) printing.scanning) in
+    printing_ends v.files p c.args.maps.now c.args.query.now left c.loop-turn.scan c.args.reply.now c.loop-turn.reply c.loop-turn.rows printing
+    (subst (λ (o : Option (List ℕ × Partition)). GivesFirst w.files p c.args.maps.now printing.rest c.next.new.self o) c.in-None.is end).0
 
 pub returns-in-None-clause-reads : goal.returns-in-None-clause-reads
 returns-in-None-clause-reads g c p most may =
@@ -122,10 +122,10 @@ print_row-requires-clause-stored g c =
     let view = g.H.Host.view in
     let on = c.loop-turn.invariant in
     let table = c.requires.table in
-    let of = on.is_of table.files table.types table.maps table.is_of in
-    let of_now = subst (λ (o : Option Folder). IsScanOf o table.files table.types table.maps c.loop-turn.scan) (sym (reads_same (view c.args.host.now) (view c.loop-turn.host) on.changes)) of in
-    parts_printable table.types table.maps c.args.query.now.picked.key table.key table.stored c.in-Some.key c.in-Some.part
-    (subst (λ (o : Option (List ℕ × Partition)). IfSome o (λ one. IsMergeOfParts table.types table.maps one.0 one.1)) c.in-Some.is (c.in_ok-next.ensures.of_parts table.files table.types table.maps of_now))
+    let of = on.is_of table.files table.types table.is_of in
+    let of_now = subst (λ (o : Option Folder). IsScanOf o table.files table.types c.args.maps.now c.loop-turn.scan) (sym (reads_same (view c.args.host.now) (view c.loop-turn.host) on.changes)) of in
+    parts_printable table.types c.args.maps.now c.args.query.now.picked.key table.key table.stored c.in-Some.key c.in-Some.part
+    (subst (λ (o : Option (List ℕ × Partition)). IfSome o (λ one. IsMergeOfParts table.types c.args.maps.now one.0 one.1)) c.in-Some.is (c.in_ok-next.ensures.of_parts table.files table.types of_now))
 
 pub print_row-requires-clause-known : goal.print_row-requires-clause-known
 print_row-requires-clause-known g c = subst (λ (kinds : List Class). KnowsWhere kinds c.args.query.now.filter) (sym c.loop-turn.invariant.kinds) c.requires.known
@@ -166,14 +166,14 @@ loop-turn-preserved g c =
       can = c.in_ok-next.ensures.can;
       printing = λ p left scanning.
           let printing = on.printing p left scanning in
-          let gives = c.in_ok-next.ensures.next p printing.rest (subst (λ (o : Option Folder). IsScanning o p c.loop-turn.scan printing.rest) (sym same) printing.scanning) in
-          printing_more v.files p c.args.query.now left c.loop-turn.scan c.args.reply.now c.loop-turn.reply c.loop-turn.rows printing c.next.new.self c.in-Some.key c.in-Some.part c.print_row.new.reply c.in_ok-printed-in-Some.printed (sym c.is_full.ensures ∙ c.if-is_full.false)
-          (subst (λ (o : Option Folder). GivesFirst o p printing.rest c.next.new.self (Some (c.in-Some.key, c.in-Some.part))) same
-          (subst (λ (o : Option (List ℕ × Partition)). GivesFirst w.files p printing.rest c.next.new.self o) c.in-Some.is gives))
+          let gives = c.in_ok-next.ensures.next p printing.rest (subst (λ (o : Option Folder). IsScanning o p c.args.maps.now c.loop-turn.scan printing.rest) (sym same) printing.scanning) in
+          printing_more v.files p c.args.maps.now c.args.query.now left c.loop-turn.scan c.args.reply.now c.loop-turn.reply c.loop-turn.rows printing c.next.new.self c.in-Some.key c.in-Some.part c.print_row.new.reply c.in_ok-printed-in-Some.printed (sym c.is_full.ensures ∙ c.if-is_full.false)
+          (subst (λ (o : Option Folder). GivesFirst o p c.args.maps.now printing.rest c.next.new.self (Some (c.in-Some.key, c.in-Some.part))) same
+          (subst (λ (o : Option (List ℕ × Partition)). GivesFirst w.files p c.args.maps.now printing.rest c.next.new.self o) c.in-Some.is gives))
           c.in_ok-printed-in-Some.ensures.printed one;
-      is_of = λ files types maps of.
-          subst (λ (o : Option Folder). IsScanOf o files types maps c.next.new.self) same
-          (c.in_ok-next.ensures.is_of files types maps (subst (λ (o : Option Folder). IsScanOf o files types maps c.loop-turn.scan) (sym same) (on.is_of files types maps of)));
+      is_of = λ files types of.
+          subst (λ (o : Option Folder). IsScanOf o files types c.args.maps.now c.next.new.self) same
+          (c.in_ok-next.ensures.is_of files types (subst (λ (o : Option Folder). IsScanOf o files types c.args.maps.now c.loop-turn.scan) (sym same) (on.is_of files types of)));
       kinds = c.print_row.ensures.kinds ∙ on.kinds;
       few = omega (arith, on.few, one);
       reads = λ p most may.

@@ -5,7 +5,6 @@ use Rattle.sasi_host.proofs.ChangeLaws.{then_same}
 use Rattle.sasi_host.specs.Damages.{OnDamage}
 use Rattle.sasi_host.specs.Disk.{Same}
 use Rattle.sasi_host.specs.Names.{Folder}
-use Rattle.sasi_layout.specs.Layout.{table_of}
 use Rattle.sasi_scan.specs.Parts.{ShowsListed, merged_parts}
 use Rattle.sasi_scan.specs.Scanning.{IsScanOf, IsScanning, MayRead}
 use Rattle.sasi_scan.proofs.Costs.{causes_behind, causes_memory, causes_of_fault, causes_ok, reads_same}
@@ -51,7 +50,6 @@ print_scan-requires-clause-table g c =
     record {
       files = c.args.files.now;
       types = c.args.types.now;
-      maps = c.args.maps.now;
       is_of = subst (λ (o : Option Folder). IsScanOf o c.args.files.now c.args.types.now c.args.maps.now c.in_ok-scan.scan) (sym (reads_same (view c.args.host.now) (view c.open.new.host) c.open.ensures.changes)) c.in_ok-scan.ensures.is_of;
       key = c.requires.key;
       stored = c.requires.stored;
@@ -64,7 +62,7 @@ returns-in_err-rows-clause-damaged g c =
     let f = c.in_err-rows.field-0.0 in
     let q = err_from_is_err_and c.from_residual-in_err-rows.result c.from_residual-in_err-rows.ensures.1 in
     rw (q.1, q.2) (subst (λ (o : Option Folder). OnDamage (ShowsListed o c.args.files.now c.args.types.now) f) same
-    (c.in_err-rows.ensures.damaged c.args.files.now c.args.types.now c.args.maps.now (subst (λ (o : Option Folder). IsScanOf o c.args.files.now c.args.types.now c.args.maps.now c.in_ok-scan.scan) (sym same) c.in_ok-scan.ensures.is_of)))
+    (c.in_err-rows.ensures.damaged c.args.files.now c.args.types.now (subst (λ (o : Option Folder). IsScanOf o c.args.files.now c.args.types.now c.args.maps.now c.in_ok-scan.scan) (sym same) c.in_ok-scan.ensures.is_of)))
 
 pub returns-in_err-rows-clause-undamaged : goal.returns-in_err-rows-clause-undamaged
 returns-in_err-rows-clause-undamaged g c =
@@ -75,7 +73,7 @@ returns-in_err-rows-clause-undamaged g c =
     rw (q.1, q.2) (no_false_table v.files c.args.types.now c.args.files.now c.args.maps.now c.in_err-rows.field-0.0
     (false_on v.files c.args.types.now c.args.files.now c.in_err-rows.field-0.0 (λ p contents have.
     c.in_err-rows.ensures.undamaged p (map_.entries (merged_parts p contents c.args.maps.now))
-    (subst (λ (o : Option Folder). IsScanning o p c.in_ok-scan.scan (map_.entries (merged_parts p contents c.args.maps.now))) (sym same) (c.in_ok-scan.ensures.opened p contents have)))))
+    (subst (λ (o : Option Folder). IsScanning o p c.args.maps.now c.in_ok-scan.scan (map_.entries (merged_parts p contents c.args.maps.now))) (sym same) (c.in_ok-scan.ensures.opened p contents have)))))
 
 pub returns-in_err-rows-clause-reads : goal.returns-in_err-rows-clause-reads
 returns-in_err-rows-clause-reads g c folder partitioner t told is =
@@ -120,7 +118,7 @@ returns-clause-ok g c folder partitioner t told is =
     let left = map_.entries (merged_parts partitioner contents c.args.maps.now) in
     let have = table_contents v.files folder partitioner c.args.types.now c.args.files.now c.args.maps.now t told is in
     answer_is (asked_rows c.args.query.now left) c.args.reply.now c.print_scan.new.reply c.count.new.self c.in_ok-rows.rows
-    (c.in_ok-rows.ensures.ok partitioner left (subst (λ (o : Option Folder). IsScanning o partitioner c.in_ok-scan.scan left) (sym (reads_same v (view c.open.new.host) c.open.ensures.changes)) (c.in_ok-scan.ensures.opened partitioner contents have)))
+    (c.in_ok-rows.ensures.ok partitioner left (subst (λ (o : Option Folder). IsScanning o partitioner c.args.maps.now c.in_ok-scan.scan left) (sym (reads_same v (view c.open.new.host) c.open.ensures.changes)) (c.in_ok-scan.ensures.opened partitioner contents have)))
     c.in_ok-count.ensures.ok
     ∙ ap (λ (m : Partitions). c.args.reply.now ++ rows_lines (asked_rows c.args.query.now (map_.entries m))) (table_merged v.files folder partitioner c.args.types.now c.args.files.now c.args.maps.now t told is)
 

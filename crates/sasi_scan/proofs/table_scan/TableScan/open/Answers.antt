@@ -15,7 +15,7 @@ returns-clause-opened g c =
 pub returns-clause-can : goal.returns-clause-can
 returns-clause-can g c =
     let view = g.H.Host.view in
-    subst (λ (o : Option Folder). CanScan o (scan_of c.add_maps.new.heads c.add_maps.new.sources.items)) (sym (reads_same (view c.args.host.now) (view c.open_files.new.host) c.open_files.ensures.changes))
+    subst (λ (o : Option Folder). CanScan o c.args.maps.now (scan_of c.add_maps.new.heads c.add_maps.new.sources.items)) (sym (reads_same (view c.args.host.now) (view c.open_files.new.host) c.open_files.ensures.changes))
     (scan_can (view c.args.host.now).files c.args.types.now c.args.files.now c.args.maps.now c.open_files.new.heads c.open_files.new.sources.items c.add_maps.new.heads c.add_maps.new.sources.items
     c.in_ok-open_files.ensures.opened c.in_ok-add_maps.ensures.heads c.in_ok-add_maps.ensures.sources)
 
