@@ -1,5 +1,5 @@
-//! Tests of memtables, merges, formats, bodies, token trees, data files, index files beside them, and the indexes and index files of
-//! manifests: their bytes, what is read of them, and damaged ones.
+//! Tests of memtables, merges, scans of tables, formats, bodies, token trees, data files, index files beside them, and the indexes and
+//! index files of manifests: their bytes, what is read of them, and damaged ones.
 //! A host is dropped by `drop`, which is proved once, and not at the end of each function.
 #![tactic(auto)]
 
@@ -27,6 +27,8 @@ mod reading;
 mod reading_damage;
 #[cfg(test)]
 mod scanning;
+#[cfg(test)]
+mod table_scans;
 #[cfg(test)]
 mod tree_fixture;
 #[cfg(test)]

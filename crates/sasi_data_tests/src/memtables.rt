@@ -3,11 +3,11 @@ ghost use Rattle.std.specs.Prelude.{◌<◌};
 
 use sasi_cells::Partition;
 use sasi_memtable::{Memtable, decorated};
-use sasi_types::{Cell, Key, Partitioner, Value};
+use sasi_types::{Cell, DecoratedKey, Key, Partitioner, Value};
 use std::alloc::Global;
 use std::process::Abort;
 
-fn key_of(rt: &impl Abort, alloc: Global, bytes: &[u8]) -> Key {
+pub fn key_of(rt: &impl Abort, alloc: Global, bytes: &[u8]) -> Key {
     Key::new(alloc, bytes).expect(rt, "a key")
 }
 
@@ -25,7 +25,7 @@ fn int_at(rt: &impl Abort, alloc: Global, time: u64) -> Partition
 }
 
 /// Keys k2 and k1 with an int each, which were written at 5 and 4.
-fn filled(rt: &impl Abort, alloc: Global) -> Memtable {
+pub fn filled(rt: &impl Abort, alloc: Global) -> Memtable {
     let mut memtable = Memtable::new(alloc, Partitioner::Lead8);
     memtable
         .put(&key_of(rt, alloc, b"k2"), &int_at(rt, alloc, 5))
@@ -77,6 +77,25 @@ fn key_is_found(rt: HostRuntime) {
     let key = decorated(Partitioner::Lead8, key_of(&rt, rt.alloc(), b"k2"));
     let part = memtable.get(&key).expect(&rt, "a partition");
     assert!(rt; is_int_at(part, 5));
+}
+
+/// The first key behind this one has these bytes.
+fn check_after(rt: &impl Abort, memtable: &Memtable, key: Option<&DecoratedKey>, bytes: &[u8]) {
+    let is_it = match memtable.after(key) {
+        Some((next, _)) => next.key.bytes() == bytes,
+        None => false,
+    };
+    assert!(rt; is_it);
+}
+
+#[test]
+fn next_key_is_found(rt: HostRuntime) {
+    let memtable = filled(&rt, rt.alloc());
+    let first = decorated(Partitioner::Lead8, key_of(&rt, rt.alloc(), b"k1"));
+    let last = decorated(Partitioner::Lead8, key_of(&rt, rt.alloc(), b"k2"));
+    check_after(&rt, &memtable, None, b"k1");
+    check_after(&rt, &memtable, Some(&first), b"k2");
+    assert!(rt; memtable.after(Some(&last)).is_none());
 }
 
 // The deletion shadows the int, and counts as a cell.
