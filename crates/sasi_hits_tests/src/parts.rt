@@ -1,4 +1,11 @@
 // The hits of several parts, united.
+ghost use Rattle.std.specs.Prelude.{◌≡◌, ◌⊎◌, Option};
+ghost use Rattle.sasi_host.specs.Names.{Folder};
+ghost use Rattle.sasi_host.specs.declared.name.Kind.TheVariants as kinds;
+ghost use Rattle.sasi_host.specs.declared.name.FileName.{FileName as SpecName};
+ghost use Rattle.sasi_ranges.specs.EachStream.{EachIsReady, SomeOpens};
+ghost use Rattle.sasi_hits.specs.Hits.{Opens, Ready};
+
 use crate::fixture::{DATA, INDEX, TOKEN, check, hit, host_of, types_of};
 use crate::indexes::{ROWS, words_of};
 use sasi_hits::{FileKeys, Hits, IndexHits, map_hits};
@@ -21,7 +28,10 @@ fn keys_of(rt: &impl Abort, alloc: Global, tokens: &[Token]) -> Vec<DecoratedKey
 }
 
 /// The hits of an index file, of a data file and of a map.
-fn streams_of(rt: &impl Abort, alloc: Global) -> Streams<Hits> {
+fn streams_of(rt: &impl Abort, alloc: Global) -> Streams<Hits>
+    ensures opens { (name : SpecName) → SomeOpens Opens result name → (name ≡ record { kind = kinds.Data; number = 7; index = 0; part = 0 }) ⊎ (name ≡ record { kind = kinds.Index; number = 7; index = 1; part = 1 }) }
+    ensures ready { (files : Option Folder) → EachIsReady Ready files result }
+{
     let words = words_of(rt, alloc, &[b"red"]);
     let index = IndexHits::new(alloc, INDEX, Op::Eq, words, 3, 7);
     let keys = FileKeys::new(alloc, DATA, types_of(rt, alloc), 3, 7);
