@@ -31,13 +31,13 @@ pub trait Candidates {
     ghost uses: { Self → ℕ → Type 0 };
 
     /// What it keeps of these files was read from them, whether or not they are in the format.
-    ghost ready: { Self → Option Folder → Type 0 };
+    ghost ready: { Self → Option Folder → Book → Type 0 };
 
     /// These files show it this damage.
     ghost shows: { Self → Option Folder → Damage → Type 0 };
 
-    /// Whatever the files are, with these maps what it gives can be printed in a table whose keys have this type.
-    ghost prints: { Self → Book → ColumnType → Type 0 };
+    /// Whatever the files are, what it gives can be printed in a table whose keys have this type.
+    ghost prints: { Self → Option Folder → Book → ColumnType → Type 0 };
 
     /// The next candidate; None exactly where none is left.
     fn next<H: Host, P: PageReader>(
@@ -47,18 +47,18 @@ pub trait Candidates {
         maps: &MapBook,
     ) -> Result<Option<(Key, Partition)>, ReadFault>
         requires read { CanStream (P.agrees pages.old) (opens self.old) (H.view host.old) }
-        requires ready { ready self.old (H.view host.old).files }
+        requires ready { ready self.old (H.view host.old).files maps.now }
         ensures gives { (left : List Candidate) → leaves self.old (H.view host.old).files maps.now left → IfOk result (GivesFirst (leaves self.new (H.view host.new).files maps.now) left) }
         ensures reads { (most : ℕ) (prices : List ℕ) → pays self.old (H.view host.old).files maps.now most prices
             → Spends (λ rest. pays self.new (H.view host.new).files maps.now rest (drop 1 prices)) (most + first_price prices) (H.view host.old).reads (H.view host.new).reads result }
-        ensures ready { OnOk result (ready self.new (H.view host.new).files) }
+        ensures ready { OnOk result (ready self.new (H.view host.new).files maps.now) }
         ensures uses { (number : ℕ) → uses self.new number → uses self.old number }
-        ensures prints { (kind : ColumnType) → prints self.old maps.now kind → IfOk result (GivesPrintable kind) }
-        ensures still_prints { (kind : ColumnType) → prints self.old maps.now kind → OnOk result (prints self.new maps.now kind) }
+        ensures prints { (kind : ColumnType) → prints self.old (H.view host.old).files maps.now kind → IfOk result (GivesPrintable kind) }
+        ensures still_prints { (kind : ColumnType) → prints self.old (H.view host.old).files maps.now kind → OnOk result (prints self.new (H.view host.new).files maps.now kind) }
         ensures read { HasStreamed (P.agrees pages.new) (P.covers pages.old) (P.covers pages.new) (opens self.old) (opens self.new) (H.view host.old) (H.view host.new) }
         ensures faults { StreamFaults (shows self.old (H.view host.old).files) (shows self.new (H.view host.new).files) (leaves self.old (H.view host.old).files maps.now) (H.view host.old) (H.view host.new) result };
 
     /// What is known of it stays while the files and the maps that it looks at are unchanged.
     ghost keeps: { (s : Self) (old new : Option Folder) (was now : Book) → (IsSome new → IsSome old) → ((name : FileName) → opens s name → contents_in new name ≡ contents_in old name) → ((number : ℕ) → uses s number → get now number ≡ get was number)
-        → (ready s old → ready s new) × ((left : List Candidate) → leaves s old was left → leaves s new now left) × ((most : ℕ) (prices : List ℕ) → pays s old was most prices → pays s new now most prices) × ((kind : ColumnType) → prints s was kind → prints s now kind) };
+        → (ready s old was → ready s new now) × ((left : List Candidate) → leaves s old was left → leaves s new now left) × ((most : ℕ) (prices : List ℕ) → pays s old was most prices → pays s new now most prices) × ((kind : ColumnType) → prints s old was kind → prints s new now kind) };
 }

@@ -27,17 +27,17 @@ pub(crate) fn next_row<C: Candidates, H: Host, P: PageReader>(
     checked: &mut u64,
 ) -> Result<Option<(Key, Partition)>, ReadFault>
     requires read { CanStream (P.agrees pages.old) (C.opens candidates.old) (H.view host.old) }
-    requires ready { C.ready candidates.old (H.view host.old).files }
-    requires prints { (kind : ColumnType) × C.prints candidates.old maps.now kind }
+    requires ready { C.ready candidates.old (H.view host.old).files maps.now }
+    requires prints { (kind : ColumnType) × C.prints candidates.old (H.view host.old).files maps.now kind }
     requires known { KnowsWhere (map (λ b. kind (b.vtable, b.value)) kit.old.objects.items) filter.now }
     ensures row { (left : List Candidate) → C.leaves candidates.old (H.view host.old).files maps.now left → IfOk result (GivesRow (answers (where_of filter.now)) (C.leaves candidates.new (H.view host.new).files maps.now) left) }
     ensures checked { (left : List Candidate) → C.leaves candidates.old (H.view host.old).files maps.now left → OnOk result (checked.new ≡ counted_on checked.old (looked_to (answers (where_of filter.now)) left)) }
     ensures reads { (left : List Candidate) (most : ℕ) (prices : List ℕ) → C.leaves candidates.old (H.view host.old).files maps.now left → C.pays candidates.old (H.view host.old).files maps.now most prices
         → Spends (λ rest. C.pays candidates.new (H.view host.new).files maps.now rest (drop (asked_to (answers (where_of filter.now)) left) prices)) (most + sum (take (asked_to (answers (where_of filter.now)) left) prices)) (H.view host.old).reads (H.view host.new).reads result }
-    ensures ready { OnOk result (C.ready candidates.new (H.view host.new).files) }
+    ensures ready { OnOk result (C.ready candidates.new (H.view host.new).files maps.now) }
     ensures uses { (number : ℕ) → C.uses candidates.new number → C.uses candidates.old number }
-    ensures prints { (kind : ColumnType) → C.prints candidates.old maps.now kind → IfOk result (GivesPrintable kind) }
-    ensures still_prints { (kind : ColumnType) → C.prints candidates.old maps.now kind → OnOk result (C.prints candidates.new maps.now kind) }
+    ensures prints { (kind : ColumnType) → C.prints candidates.old (H.view host.old).files maps.now kind → IfOk result (GivesPrintable kind) }
+    ensures still_prints { (kind : ColumnType) → C.prints candidates.old (H.view host.old).files maps.now kind → OnOk result (C.prints candidates.new (H.view host.new).files maps.now kind) }
     ensures kinds { map (λ b. kind (b.vtable, b.value)) kit.new.objects.items ≡ map (λ b. kind (b.vtable, b.value)) kit.old.objects.items }
     ensures read { HasStreamed (P.agrees pages.new) (P.covers pages.old) (P.covers pages.new) (C.opens candidates.old) (C.opens candidates.new) (H.view host.old) (H.view host.new) }
     ensures faults { StreamFaults (C.shows candidates.old (H.view host.old).files) (C.shows candidates.new (H.view host.new).files) (C.leaves candidates.old (H.view host.old).files maps.now) (H.view host.old) (H.view host.new) result }

@@ -58,8 +58,8 @@ impl<C: Candidates + Drop> Recheck<C> {
         kit: &mut Kit,
     ) -> Result<Option<(Key, Partition)>, ReadFault>
         requires read { CanStream (P.agrees pages.old) (C.opens self.old.candidates) (H.view host.old) }
-        requires ready { C.ready self.old.candidates (H.view host.old).files }
-        requires prints { (kind : ColumnType) × C.prints self.old.candidates maps.now kind }
+        requires ready { C.ready self.old.candidates (H.view host.old).files maps.now }
+        requires prints { (kind : ColumnType) × C.prints self.old.candidates (H.view host.old).files maps.now kind }
         requires known { KnowsWhere (map (λ b. kind (b.vtable, b.value)) kit.old.objects.items) self.old.filter }
         // It is the first candidate that passes, while LIMIT allows one.
         ensures row { (left : List Candidate) → C.leaves self.old.candidates (H.view host.old).files maps.now left
@@ -71,11 +71,11 @@ impl<C: Candidates + Drop> Recheck<C> {
         ensures reads { (left : List Candidate) (most : ℕ) (prices : List ℕ) → C.leaves self.old.candidates (H.view host.old).files maps.now left → C.pays self.old.candidates (H.view host.old).files maps.now most prices
             → Spends (λ rest. C.pays self.new.candidates (H.view host.new).files maps.now rest (drop (asked_in self.old.rows_left (answers (where_of self.old.filter)) left) prices))
                 (most + sum (take (asked_in self.old.rows_left (answers (where_of self.old.filter)) left) prices)) (H.view host.old).reads (H.view host.new).reads result }
-        ensures ready { OnOk result (C.ready self.new.candidates (H.view host.new).files) }
+        ensures ready { OnOk result (C.ready self.new.candidates (H.view host.new).files maps.now) }
         ensures uses { (number : ℕ) → C.uses self.new.candidates number → C.uses self.old.candidates number }
         // In any file what it gives can be printed.
-        ensures prints { (kind : ColumnType) → C.prints self.old.candidates maps.now kind → IfOk result (GivesPrintable kind) }
-        ensures still_prints { (kind : ColumnType) → C.prints self.old.candidates maps.now kind → OnOk result (C.prints self.new.candidates maps.now kind) }
+        ensures prints { (kind : ColumnType) → C.prints self.old.candidates (H.view host.old).files maps.now kind → IfOk result (GivesPrintable kind) }
+        ensures still_prints { (kind : ColumnType) → C.prints self.old.candidates (H.view host.old).files maps.now kind → OnOk result (C.prints self.new.candidates (H.view host.new).files maps.now kind) }
         ensures filter { self.new.filter ≡ self.old.filter }
         ensures kinds { map (λ b. kind (b.vtable, b.value)) kit.new.objects.items ≡ map (λ b. kind (b.vtable, b.value)) kit.old.objects.items }
         ensures read { HasStreamed (P.agrees pages.new) (P.covers pages.old) (P.covers pages.new) (C.opens self.old.candidates) (C.opens self.new.candidates) (H.view host.old) (H.view host.new) }

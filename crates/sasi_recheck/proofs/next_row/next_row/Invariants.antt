@@ -18,13 +18,13 @@ invariant-loop-turn g l =
     let test = answers (where_of l.filter) in
     record {
       can : CanStream (g.P.PageReader.agrees l.pages) (C.opens l.candidates) v;
-      ready : C.ready l.candidates v.files;
+      ready : C.ready l.candidates v.files l.maps;
       passed : (left : List Candidate) → C.leaves l.fn.candidates u.files l.maps left → HasPassed test (C.leaves l.candidates v.files l.maps) left l._turn;
       count : l.checked ≡ counted_on l.fn.checked l._turn;
       paid : (most : ℕ) (prices : List ℕ) → C.pays l.fn.candidates u.files l.maps most prices
           → (rest : ℕ) × C.pays l.candidates v.files l.maps rest (drop l._turn prices) × (v.reads + rest ≤ u.reads + most + sum (take l._turn prices));
       uses : (number : ℕ) → C.uses l.candidates number → C.uses l.fn.candidates number;
-      prints : (kind : ColumnType) → C.prints l.fn.candidates l.maps kind → C.prints l.candidates l.maps kind;
+      prints : (kind : ColumnType) → C.prints l.fn.candidates u.files l.maps kind → C.prints l.candidates v.files l.maps kind;
       kinds : map (λ b. (goal.Analyzer-dyn g (b.vtable, b.value)).kind b.value) l.kit.objects.items ≡ map (λ b. (goal.Analyzer-dyn g (b.vtable, b.value)).kind b.value) l.fn.kit.objects.items;
       read : HasStreamed (g.P.PageReader.agrees l.pages) (g.P.PageReader.covers l.fn.pages) (g.P.PageReader.covers l.pages) (C.opens l.fn.candidates) (C.opens l.candidates) u v;
       faults : (n : ℕ) → StreamFaults (C.shows l.fn.candidates u.files) (C.shows l.candidates v.files) (C.leaves l.fn.candidates u.files l.maps) u v (Ok n);

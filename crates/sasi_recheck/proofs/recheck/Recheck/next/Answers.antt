@@ -1,6 +1,4 @@
 use Rattle.std.proofs.Common.{◌≡◌, ◌+◌, ◌≤◌, ℕ, Some, map, drop, sum, take, zero, refl, sym, subst, arith, rules}
-use Rattle.sasi_types.specs.declared.class.Class.{Class}
-use Rattle.sasi_model.specs.Conditions.{Condition}
 use Rattle.sasi_ranges.proofs.Calling.{streams_nothing}
 use Rattle.sasi_model.specs.Filters.{answers}
 use Rattle.sasi_machine.specs.Where.{where_of}
