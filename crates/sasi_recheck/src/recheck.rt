@@ -70,7 +70,7 @@ impl<C: Candidates + Drop> Recheck<C> {
         // It pays for the candidates that it looks at, and for the end where it comes to it.
         ensures reads { (left : List Candidate) (most : ℕ) (prices : List ℕ) → C.leaves self.old.candidates (H.view host.old).files maps.now left → C.pays self.old.candidates (H.view host.old).files maps.now most prices
             → Spends (λ rest. C.pays self.new.candidates (H.view host.new).files maps.now rest (drop (asked_in self.old.rows_left (answers (where_of self.old.filter)) left) prices))
-                (most + sum (take (asked_in self.old.rows_left (answers (where_of self.old.filter)) left) prices)) (H.view host.old).reads (H.view host.new).reads result }
+            (most + sum (take (asked_in self.old.rows_left (answers (where_of self.old.filter)) left) prices)) (H.view host.old).reads (H.view host.new).reads result }
         ensures ready { OnOk result (C.ready self.new.candidates (H.view host.new).files maps.now) }
         ensures uses { (number : ℕ) → C.uses self.new.candidates number → C.uses self.old.candidates number }
         // In any file what it gives can be printed.

@@ -88,10 +88,11 @@ returns-in-None-clause-reads g c left most prices is pays =
     let end = subst (λ (o : Option (List ℕ × Partition)). GivesFirst (C.leaves c.next.new.self w.files c.args.maps.now) passed.rest o) c.in-None.is (c.in_ok-next.ensures.gives passed.rest passed.others) in
     let asked = asked_end test _ left c.loop-turn._turn passed end.0 in
     let paid = on.paid most prices pays in
-    let one = c.in_ok-next.ensures.reads paid.0 (drop c.loop-turn._turn prices) paid.1 in
-    (one.0,
-     subst (λ (l : List ℕ). C.pays c.next.new.self w.files c.args.maps.now one.0 l) (sym (ap (λ k. drop k prices) asked ∙ drop_next c.loop-turn._turn prices)) one.1,
-     omega (arith, one.2, paid.2, sum_next c.loop-turn._turn prices, ap (λ k. sum (take k prices)) asked))
+    let one = c.in_ok-next.ensures.reads paid.0 (drop c.loop-turn._turn prices) paid.1 in (
+      one.0,
+      subst (λ (l : List ℕ). C.pays c.next.new.self w.files c.args.maps.now one.0 l) (sym (ap (λ k. drop k prices) asked ∙ drop_next c.loop-turn._turn prices)) one.1,
+      omega (arith, one.2, paid.2, sum_next c.loop-turn._turn prices, ap (λ k. sum (take k prices)) asked),
+    )
 
 pub returns-in-None-clause-read : goal.returns-in-None-clause-read
 returns-in-None-clause-read g c =
@@ -182,10 +183,11 @@ returns-then-branch-clause-reads g c left most prices is pays =
     let passes : test given.0 ≡ true = ap test (sym (entry_is given.0 c.in-Some.key c.in-Some.part given.3 given.4)) ∙ sym (c.in_ok-answers-in-Some.ensures.answers given.0.0.token) ∙ c.if-branch.true in
     let asked = asked_row test _ left c.loop-turn._turn passed given.0 given.1 given.2 passes in
     let paid = on.paid most prices pays in
-    let one = c.in_ok-next.ensures.reads paid.0 (drop c.loop-turn._turn prices) paid.1 in
-    (one.0,
-     subst (λ (l : List ℕ). C.pays c.next.new.self w.files c.args.maps.now one.0 l) (sym (ap (λ k. drop k prices) asked ∙ drop_next c.loop-turn._turn prices)) one.1,
-     omega (arith, one.2, paid.2, sum_next c.loop-turn._turn prices, ap (λ k. sum (take k prices)) asked))
+    let one = c.in_ok-next.ensures.reads paid.0 (drop c.loop-turn._turn prices) paid.1 in (
+      one.0,
+      subst (λ (l : List ℕ). C.pays c.next.new.self w.files c.args.maps.now one.0 l) (sym (ap (λ k. drop k prices) asked ∙ drop_next c.loop-turn._turn prices)) one.1,
+      omega (arith, one.2, paid.2, sum_next c.loop-turn._turn prices, ap (λ k. sum (take k prices)) asked),
+    )
 
 pub returns-then-branch-clause-read : goal.returns-then-branch-clause-read
 returns-then-branch-clause-read g c =
@@ -220,10 +222,11 @@ loop-turn-preserved g c =
       count = c.saturating_add.ensures ∙ ap counted on.count ∙ ap (counted_on c.args.checked.now) more;
       paid = λ most prices pays.
           let paid = on.paid most prices pays in
-          let one = c.in_ok-next.ensures.reads paid.0 (drop c.loop-turn._turn prices) paid.1 in
-          (one.0,
-           subst (λ (l : List ℕ). C.pays c.next.new.self w.files c.args.maps.now one.0 l) (sym (drop_next c.loop-turn._turn prices) ∙ ap (λ n. drop n prices) more) one.1,
-           omega (arith, one.2, paid.2, sum_next c.loop-turn._turn prices, ap (λ n. sum (take n prices)) more));
+          let one = c.in_ok-next.ensures.reads paid.0 (drop c.loop-turn._turn prices) paid.1 in (
+            one.0,
+            subst (λ (l : List ℕ). C.pays c.next.new.self w.files c.args.maps.now one.0 l) (sym (drop_next c.loop-turn._turn prices) ∙ ap (λ n. drop n prices) more) one.1,
+            omega (arith, one.2, paid.2, sum_next c.loop-turn._turn prices, ap (λ n. sum (take n prices)) more),
+          );
       uses = λ number uses. on.uses number (c.next.ensures.uses number uses);
       prints = λ kind prints. c.in_ok-next.ensures.still_prints kind (on.prints kind prints);
       kinds = c.answers.ensures.kinds ∙ on.kinds;

@@ -26,10 +26,10 @@ returns-clause-reads g c left most prices is pays =
     let v = g.H.Host.view c.next_row.new.host in
     subst
     (λ (s : RecheckView g.row.C.Denot). C.leaves s.candidates u.files c.args.maps.now left → C.pays s.candidates u.files c.args.maps.now most prices
-        → (rest : ℕ) × C.pays c.next_row.new.candidates v.files c.args.maps.now rest (drop (asked_in s.rows_left (answers (where_of s.filter)) left) prices)
-        × (v.reads + rest ≤ u.reads + (most + sum (take (asked_in s.rows_left (answers (where_of s.filter)) left) prices))))
+    → (rest : ℕ) × C.pays c.next_row.new.candidates v.files c.args.maps.now rest (drop (asked_in s.rows_left (answers (where_of s.filter)) left) prices)
+    × (v.reads + rest ≤ u.reads + (most + sum (take (asked_in s.rows_left (answers (where_of s.filter)) left) prices))))
     c.self.view_is
     (λ leaves pays. some_left
-        (λ asked. (rest : ℕ) × C.pays c.next_row.new.candidates v.files c.args.maps.now rest (drop asked prices) × (v.reads + rest ≤ u.reads + (most + sum (take asked prices))))
-        c.self.inside.rows_left (answers (where_of c.self.inside.filter)) left (λ none. search rules) (c.in_ok-found.ensures.reads left most prices leaves pays))
+    (λ asked. (rest : ℕ) × C.pays c.next_row.new.candidates v.files c.args.maps.now rest (drop asked prices) × (v.reads + rest ≤ u.reads + (most + sum (take asked prices))))
+    c.self.inside.rows_left (answers (where_of c.self.inside.filter)) left (λ none. search rules) (c.in_ok-found.ensures.reads left most prices leaves pays))
     is pays
