@@ -21,6 +21,7 @@ import sys
 import tempfile
 
 from processes import MEMORY, measured, timed
+from tables import INT, TEXT, Table, write
 
 COUNT, EACH = 100000, 10000
 ROWS, FILES = 1000000, 10
@@ -49,75 +50,14 @@ def inserts(count, flush='FLUSH t;\n'):
 
 
 CREATE = 'CREATE TABLE t (k text PRIMARY KEY, a text, b int);\n'
+TABLE = Table('t', [('k', TEXT), ('a', TEXT), ('b', INT)])
 INDEXES = ''.join("CREATE CUSTOM INDEX %s ON t (%s) USING 'org.apache.cassandra.index.sasi.SASIIndex';\n" % (name, column) for name, column in (('i', 'a'), ('j', 'b')))
 SQLITE_INDEXES = 'CREATE INDEX ia ON t (a);\nCREATE INDEX ib ON t (b);\n'
 SQLITE = 'PRAGMA journal_mode=WAL;\nPRAGMA synchronous=FULL;\nCREATE TABLE t (k TEXT PRIMARY KEY, a TEXT, b INT) WITHOUT ROWID;\n'
 
 
-# ---- the bytes of files
-
-def number(size, value):
-    return value.to_bytes(size, 'big')
-
-
-def cell(column, time, value):
-    return number(2, column) + number(8, time) + b'\1' + number(2, len(value)) + value
-
-
-def partition(n):
-    """What the INSERT of a row merges: the marker, a text and an int."""
-    time = n + 1
-    cells = cell(0, time, b'') + cell(1, time, b'value %d' % n) + cell(2, time, number(4, n))
-    body = number(2, 8) + key(n).encode() + number(8, 0) + number(2, 3) + cells
-    return number(4, len(body)) + body
-
-
-def tree(at, pairs):
-    """The bytes of a token tree that stands at an offset, and the offset of its root."""
-    out, level, entries = bytearray(), 0, pairs
-    while True:
-        above = []
-        for first in range(0, len(entries), 255):
-            node = entries[first:first + 255]
-            above.append((node[0][0], at + len(out)))
-            out += number(2, level << 8) + number(2, len(node)) + number(4, 0)
-            out += b''.join(number(8, token) + number(8, offset) for token, offset in node)
-        if len(above) == 1:
-            return out, above[0][1]
-        level, entries = level + 1, above
-
-
-def data_file(rows):
-    """A data file of these rows. The token of a key of eight bytes is the key."""
-    out, pairs = bytearray(b'SASIDAT1' + number(4, 1) + number(4, 0)), []
-    for n in sorted(rows, key=key):
-        pairs.append((int.from_bytes(key(n).encode(), 'big'), len(out)))
-        out += partition(n)
-    end = len(out)
-    nodes, root = tree(end, pairs)
-    footer = number(8, root) + number(8, len(pairs)) + number(8, max(rows) + 1) + number(8, end) + b'SASIDEND'
-    return out + nodes + footer
-
-
-def gated(magic, records):
-    payloads = b''.join(b'\1' + number(4, len(record)) + record for record in records)
-    return magic + number(4, 1) + number(4, 1) + payloads + b'\0'
-
-
-def manifest(files):
-    """It lists the table, and data files of these numbers."""
-    start = b'\1\0' + number(4, 1) + number(4, 1)
-    columns = b''.join(b'\1' + name + number(1, kind) for name, kind in ((b'k', 0), (b'a', 0), (b'b', 1)))
-    table = b'\2' + number(4, 1) + b'\1t' + number(2, 3) + columns + number(2, 0) + number(4, 1)
-    added = b''.join(number(4, file) + number(2, 0) for file in files)
-    replace = b'\5' + number(4, 1) + number(4, 0) + number(4, len(files)) + added + number(4, 1) * 3
-    return gated(b'SASIMAN1', [number(4, 1) + edit for edit in (start, table, replace)])
-
-
-def write(path, content):
-    with open(path, 'wb') as out:
-        out.write(content)
-    return path
+def row(n):
+    return key(n), n + 1, ('value %d' % n, n)
 
 
 def write_script(path, lines):
@@ -126,13 +66,7 @@ def write_script(path, lines):
 
 def write_folder(folder):
     """A folder of 1,000,000 rows in ten data files, whose keys lie between one another."""
-    os.mkdir(folder)
-    for file in range(1, FILES + 1):
-        write(os.path.join(folder, 'data-%d' % file), data_file(range(file - 1, ROWS, FILES)))
-    write(os.path.join(folder, 'manifest-1'), manifest(range(1, FILES + 1)))
-    write(os.path.join(folder, 'log-1'), gated(b'SASILOG1', []))
-    write(os.path.join(folder, 'seal-1'), b'')
-    return folder
+    return TABLE.write_folder(folder, [[row(n) for n in range(file, ROWS, FILES)] for file in range(FILES)])
 
 
 # ---- runs
@@ -168,8 +102,9 @@ def check_data_file(program, top):
     """Exits where it writes another file than a FLUSH of the same rows."""
     folder = os.path.join(top, 'checked')
     run([program, folder, write_script(os.path.join(top, 'script'), [CREATE] + list(inserts(EACH)))])
-    with open(os.path.join(folder, 'data-1'), 'rb') as found:
-        if found.read() != data_file(range(EACH)):
+    made = TABLE.write_folder(os.path.join(top, 'made'), [[row(n) for n in range(EACH)]])
+    with open(os.path.join(folder, 'data-1'), 'rb') as found, open(os.path.join(made, 'data-1'), 'rb') as wanted:
+        if found.read() != wanted.read():
             sys.exit('a FLUSH writes another file')
 
 
