@@ -1,0 +1,7 @@
+pub mod NarrowingLaws
+mod Searching
+mod EntryOrder
+mod Spans
+mod MapKeys
+mod Refs
+mod Joining
