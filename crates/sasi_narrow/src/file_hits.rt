@@ -23,7 +23,7 @@ fn is_hit(indexed: bool, hit: Entry, place: u64, entries: &[Entry]) -> bool
     !indexed || is_among(entries, Entry { place, ..hit })
 }
 
-/// Adds the keys of a data file that are hits of the relation and the part of an entry, whatever its offset is.
+/// Adds the keys of a data file that are hits. `hit` is an entry of the relation and the part, whatever its offset is.
 pub fn add_file_hits<'a>(
     hits: &mut Vec<&'a Key>,
     indexed: bool,

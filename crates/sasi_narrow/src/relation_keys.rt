@@ -14,7 +14,7 @@ use sasi_ranges::Entry;
 use sasi_types::{Key, Token};
 use std::alloc::{AllocError, Global};
 
-// Adds the keys that are hits in a part, whose number and relation are those of an entry.
+// Adds the keys that are hits in a part. `hit` is an entry of the relation and the part, whatever its offset is.
 fn add_hits<'a>(
     hits: &mut Vec<&'a Key>,
     hit: Entry,
