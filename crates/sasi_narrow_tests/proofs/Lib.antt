@@ -1,1 +1,1 @@
-mod UnusedLaws
+mod NewKeyLaws

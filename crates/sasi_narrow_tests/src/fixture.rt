@@ -4,7 +4,7 @@ ghost use Rattle.std.specs.List.{AllByRecursion};
 ghost use Rattle.sasi_types.specs.declared.column.ColumnType.TheVariants.{Int as OfNumbers};
 ghost use Rattle.sasi_memindex.specs.MemIndexView.{empty_index};
 ghost use Rattle.sasi_narrow.specs.Narrowing.{TellsOf};
-ghost use Rattle.sasi_narrow_tests.specs.Unused.{HasNothingFrom};
+ghost use Rattle.sasi_narrow_tests.specs.NewKeys.{HasNothingFrom};
 
 use sasi_analyzers::Kit;
 use sasi_dataread::PlacedKey;
