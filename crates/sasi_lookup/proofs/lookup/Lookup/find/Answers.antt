@@ -1,0 +1,44 @@
+use Rattle.std.proofs.Common.{◌≡◌, ◌∙◌, List, ap, subst, sym}
+use Rattle.std.specs.List.{AllByRecursion}
+use Rattle.sasi_ranges.specs.StreamCalls.{CanStream, HasStreamed}
+use Rattle.sasi_lookup.specs.Files.{IsNamed, LookedFile}
+use Rattle.sasi_lookup.specs.Lookups.{FilesOpen, LookupView}
+use Rattle.sasi_lookup.proofs.FindLaws.{ready_named}
+use Rattle.sasi_lookup.proofs.LookupLaws.{lookup_faults, lookup_found, lookup_of_parts, lookup_reads}
+use Rattle.sasi_lookup.proofs.lookup.Lookup.find.Goals as goal
+
+pub find_in_files-requires : goal.find_in_files-requires
+find_in_files-requires g c =
+    let v = g.H.Host.view c.args.host.now in
+    let same : c.deref.result.now ≡ c.args.self.now.files = c.deref.ensures.value ∙ ap (λ (l : LookupView). l.files) c.self.view_is in
+    record {
+      read = subst (λ (fs : List LookedFile). CanStream (g.P.PageReader.agrees c.args.pages.now) (FilesOpen fs) v) (sym same) c.requires.read;
+      named = subst (λ (fs : List LookedFile). AllByRecursion IsNamed fs) (sym same) (ready_named c.args.self.now.types v.files c.args.self.now.files c.requires.ready);
+    }
+
+pub returns-clause-found : goal.returns-clause-found
+returns-clause-found g c =
+    let same : c.deref.result.now ≡ c.args.self.now.files = c.deref.ensures.value ∙ ap (λ (l : LookupView). l.files) c.self.view_is in
+    lookup_found (g.H.Host.view c.args.host.now) (g.H.Host.view c.find_in_files.new.host) c.args.self.now c.deref.result.now same c.requires.ready c.args.key.now c.find_in_files.result c.find_in_files.ensures.found
+
+pub returns-clause-of_parts : goal.returns-clause-of_parts
+returns-clause-of_parts g c =
+    let same : c.deref.result.now ≡ c.args.self.now.files = c.deref.ensures.value ∙ ap (λ (l : LookupView). l.files) c.self.view_is in
+    lookup_of_parts (g.H.Host.view c.args.host.now) (g.H.Host.view c.find_in_files.new.host) c.args.self.now c.deref.result.now same c.requires.ready c.args.key.now c.find_in_files.result c.find_in_files.ensures.of_parts
+
+pub returns-clause-reads : goal.returns-clause-reads
+returns-clause-reads g c =
+    let same : c.deref.result.now ≡ c.args.self.now.files = c.deref.ensures.value ∙ ap (λ (l : LookupView). l.files) c.self.view_is in
+    lookup_reads (g.H.Host.view c.args.host.now) (g.H.Host.view c.find_in_files.new.host) c.args.self.now c.deref.result.now same c.requires.ready c.args.key.now c.find_in_files.ensures.reads
+
+pub returns-clause-read : goal.returns-clause-read
+returns-clause-read g c =
+    let v = g.H.Host.view c.args.host.now in
+    let w = g.H.Host.view c.find_in_files.new.host in
+    let same : c.deref.result.now ≡ c.args.self.now.files = c.deref.ensures.value ∙ ap (λ (l : LookupView). l.files) c.self.view_is in
+    subst (λ (fs : List LookedFile). HasStreamed (g.P.PageReader.agrees c.find_in_files.new.pages) (g.P.PageReader.covers c.args.pages.now) (g.P.PageReader.covers c.find_in_files.new.pages) (FilesOpen fs) (FilesOpen fs) v w) same c.find_in_files.ensures.read
+
+pub returns-clause-faults : goal.returns-clause-faults
+returns-clause-faults g c =
+    let same : c.deref.result.now ≡ c.args.self.now.files = c.deref.ensures.value ∙ ap (λ (l : LookupView). l.files) c.self.view_is in
+    lookup_faults (g.H.Host.view c.args.host.now) (g.H.Host.view c.find_in_files.new.host) c.args.self.now c.deref.result.now same c.requires.ready c.find_in_files.result c.find_in_files.ensures.faults
