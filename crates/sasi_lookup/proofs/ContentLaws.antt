@@ -89,9 +89,9 @@ has_none p token at key (one ∷ others) is none =
     by true same all = (all.0, all.1)
     by false other all = (
       false_from_ne_true (key_eq key one.0) (λ equal. (
-      let token_is : token_of p one.0 ≡ token = sym (ap (token_of p) (is_same_key key one.0 equal)) ∙ is in
-      let no : true ≡ false = sym (eq-eqb (token_of p one.0) token token_is) ∙ other in
-      cc)),
+          let token_is : token_of p one.0 ≡ token = sym (ap (token_of p) (is_same_key key one.0 equal)) ∙ is in
+          let no : true ≡ false = sym (eq-eqb (token_of p one.0) token token_is) ∙ other in
+          cc)),
       all,
     )
 
@@ -107,7 +107,7 @@ differs p first key part [] behind all =
 differs p first key part (one ∷ before) behind all = differs p first key part before behind all.1
 
 -- it is the content's, and its pages are those of its partition
-record IsKeyOf (at : ℕ) (content : Content) (place : ℕ) (key : Bytes) (part : Partition) : Type 0 where
+pub record IsKeyOf (at : ℕ) (content : Content) (place : ℕ) (key : Bytes) (part : Partition) : Type 0 where
   pub partition_is : partition_of content key ≡ Some part
   pub pages_are : key_pages key at content ≡ partition_pages place (length (body key part))
 

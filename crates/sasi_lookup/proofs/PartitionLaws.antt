@@ -91,16 +91,16 @@ module _ (v w : View) (o : OpenDataFile) (keys : List PlacedKey) (place : ℕ) (
   found_shown fault.Failed shown all = tt
   found_shown fault.OutOfMemory shown all = tt
   found_shown (fault.Damaged damage) shown all = λ bytes reads. (
-    let one : IsAtPair v.files o (record { place = place; key = key }) = all_has (IsAtPair v.files o) keys (record { place = place; key = key }) all there in
-    at_pair one.index one.pair (one.entry bytes reads)
-    (subst (λ (n : ℕ). ShowsPair o one.index n bytes damage) (sym one.at) (in_partition one.begins (shown bytes reads))))
+      let one : IsAtPair v.files o (record { place = place; key = key }) = all_has (IsAtPair v.files o) keys (record { place = place; key = key }) all there in
+      at_pair one.index one.pair (one.entry bytes reads)
+      (subst (λ (n : ℕ). ShowsPair o one.index n bytes damage) (sym one.at) (in_partition one.begins (shown bytes reads))))
 
   pub no_false_found : (f : ReadFault) → NoFalsePartitionDamage v o place f → OnDamage (λ _. (p : Partitioner) (token : ℕ) (content : Content) → IsOpenOn v o p content → keys ≡ keys_at p token (length header) content → ⊥) f
   no_false_found fault.Failed none = tt
   no_false_found fault.OutOfMemory none = tt
   no_false_found (fault.Damaged damage) none = λ p token content on are. (
-    let is = here p token content keys place key on.data_file.content_is are there in
-    none p content key is.part on is.stands)
+      let is = here p token content keys place key on.data_file.content_is are there in
+      none p content key is.part on is.stands)
 
 -- ---- a file that is looked up
 
@@ -120,11 +120,11 @@ module _ (v : View) (file : LookedFile) (o : OpenDataFile) (keys : List PlacedKe
   pub file_found : (key : Bytes) (r : Result (Option Partition) ReadFault)
       → IfOk r (λ found. (p : Partitioner) (token : ℕ) (content : Content) → IsOpenOn v o p content → keys ≡ keys_at p token (length header) content → token_of p key ≡ token → found ≡ partition_of content key)
       → IfOk r (λ found. (p : Partitioner) (token : ℕ) (types : List ColumnType) (content : Content) → IsFileReady types file v.files → IsTurnedFile v.files types file (p, (token, content)) → token_of p key ≡ token
-        → found ≡ map_.get (map_.from_entries {R = decorated_cmp} (entries_of p content)) (decorated p key))
+      → found ≡ map_.get (map_.from_entries {R = decorated_cmp} (entries_of p content)) (decorated p key))
   file_found key r clause =
       if_ok (λ found. (p : Partitioner) (token : ℕ) (content : Content) → IsOpenOn v o p content → keys ≡ keys_at p token (length header) content → token_of p key ≡ token → found ≡ partition_of content key)
       (λ found. (p : Partitioner) (token : ℕ) (types : List ColumnType) (content : Content) → IsFileReady types file v.files → IsTurnedFile v.files types file (p, (token, content)) → token_of p key ≡ token
-        → found ≡ map_.get (map_.from_entries {R = decorated_cmp} (entries_of p content)) (decorated p key)) r
+      → found ≡ map_.get (map_.from_entries {R = decorated_cmp} (entries_of p content)) (decorated p key)) r
       (λ found gives p token types content ready turned is. gives p token content (turned_on types (p, (token, content)) ready turned) (same ∙ turned.1.keys_are) is ∙ looked_up p (decorated p key) content refl) clause
 
   pub file_stored : (key : Bytes) (r : Result (Option Partition) ReadFault) → IfOk r (λ found. IfSome found (IsBodyOf o.types key)) → (types : List ColumnType) → IsFileReady types file v.files → IfOk r (λ found. IfSome found (IsBodyOf types key))

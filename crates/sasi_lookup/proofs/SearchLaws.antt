@@ -71,11 +71,11 @@ found_nowhere keys key i is rise = every keys (λ n d within. not_here n d withi
 
     not_here : (n : ℕ) (d : PlacedKey) → n < length keys → key_eq key (get_or keys n d).key ≡ false
     not_here n d within = false_from_ne_true (key_eq key (get_or keys n d).key) (λ equal. (
-      let same : key_cmp (get_or keys n d).key key ≡ Equal = ap (λ (k : Bytes). key_cmp (get_or keys n d).key k) (is_same_key key (get_or keys n d).key equal) ∙ tied_itself nat_list_cmp_total (get_or keys n d).key in
-      ⊎_elim
-      (λ low. (let no : Less ≡ Equal = sym (ends.0 n d (omega arith) low) ∙ same in cc))
-      (λ high. (let no : Greater ≡ Equal = sym (ends.1 n d high within) ∙ same in cc))
-      (either n i)))
+        let same : key_cmp (get_or keys n d).key key ≡ Equal = ap (λ (k : Bytes). key_cmp (get_or keys n d).key k) (is_same_key key (get_or keys n d).key equal) ∙ tied_itself nat_list_cmp_total (get_or keys n d).key in
+        ⊎_elim
+        (λ low. (let no : Less ≡ Equal = sym (ends.0 n d (omega arith) low) ∙ same in cc))
+        (λ high. (let no : Greater ≡ Equal = sym (ends.1 n d high within) ∙ same in cc))
+        (either n i)))
 
     every : (ks : List PlacedKey) → ((n : ℕ) (d : PlacedKey) → n < length ks → key_eq key (get_or ks n d).key ≡ false) → HasNo key ks
     every [] none = tt

@@ -29,13 +29,13 @@ FirstHave p token (suc n) (file ∷ files) (content ∷ contents) = HasTokenKeys
 
 -- the first so many were turned, in a folder with these files; the reads so far and those that are left are no more than those of all
 pub record IsTurning (seen : Option Folder) (p : Partitioner) (token : ℕ) (types : List ColumnType) (n : ℕ) (files : List LookedFile) (contents : List Content) (now most : ℕ) : Type 0 where
-  pub data : AreDataOf seen p types files contents
+  pub are_data : AreDataOf seen p types files contents
   pub first : FirstHave p token n files contents
   pub reads : now + turn_reads p token (drop n files) (drop n contents) ≤ most
 
 pub turning_begins : (seen : Option Folder) (p : Partitioner) (token : ℕ) (types : List ColumnType) (files : List LookedFile) (contents : List Content) (before : ℕ) → AreDataOf seen p types files contents
     → IsTurning seen p token types 0 files contents before (before + turn_reads p token files contents)
-turning_begins seen p token types files contents before are = record { data = are; first = tt; reads = omega arith }
+turning_begins seen p token types files contents before are = record { are_data = are; first = tt; reads = omega arith }
 
 all_have : (seen : Option Folder) (p : Partitioner) (token : ℕ) (types : List ColumnType) (n : ℕ) (files : List LookedFile) (contents : List Content) → length files ≤ n → AreDataOf seen p types files contents → FirstHave p token n files contents
     → EachHasKeys p token files contents
@@ -47,7 +47,7 @@ all_have seen p token types (suc n) (f ∷ fs) (c ∷ cs) all are first = (first
 
 pub turning_ends : (seen : Option Folder) (p : Partitioner) (token : ℕ) (types : List ColumnType) (n : ℕ) (files : List LookedFile) (contents : List Content) (now most : ℕ) → length files ≤ n
     → IsTurning seen p token types n files contents now most → EachHasKeys p token files contents
-turning_ends seen p token types n files contents now most all on = all_have seen p token types n files contents all on.data on.first
+turning_ends seen p token types n files contents now most all on = all_have seen p token types n files contents all on.are_data on.first
 
 module _ (d : LookedFile) where
   -- ---- the file at an index
@@ -103,20 +103,20 @@ module _ (d : LookedFile) where
   -- it is turned
   turned_set : (x y : Option Folder) (p : Partitioner) (token : ℕ) (types : List ColumnType) (files : List LookedFile) (i : ℕ) (new : LookedFile) (contents : List Content) (now after most : ℕ) → i < length files → y ≡ x
       → ((content : Content) → IsDataOf x p types (slice_index_or files i d).name (slice_index_or files i d).opened content
-        → IsDataOf y p types new.name new.opened content × HasTokenKeys p token new content × (after ≤ now + (opening_reads (slice_index_or files i d).opened + keys_reads p token content)))
+      → IsDataOf y p types new.name new.opened content × HasTokenKeys p token new content × (after ≤ now + (opening_reads (slice_index_or files i d).opened + keys_reads p token content)))
       → IsTurning x p token types i files contents now most → IsTurning y p token types (suc i) (slice_set files i new) contents after most
   turned_set x y p token types [] i new contents now after most at same one on = absurd (omega arith)
-  turned_set x y p token types (f ∷ files) i new [] now after most at same one on = absurd on.data
+  turned_set x y p token types (f ∷ files) i new [] now after most at same one on = absurd on.are_data
   turned_set x y p token types (f ∷ files) zero new (c ∷ cs) now after most at same one on =
-      let this = one c on.data.0 in
-      record { data = (this.0, subst (λ (o : Option Folder). AreDataOf o p types files cs) (sym same) on.data.1); first = (this.1, tt); reads = omega (arith, this.2, on.reads) }
+      let this = one c on.are_data.0 in
+      record { are_data = (this.0, subst (λ (o : Option Folder). AreDataOf o p types files cs) (sym same) on.are_data.1); first = (this.1, tt); reads = omega (arith, this.2, on.reads) }
   turned_set x y p token types (f ∷ files) (suc i) new (c ∷ cs) now after most at same one on =
-      let rest = turned_set x y p token types files i new cs now after most (omega arith) same one (record { data = on.data.1; first = on.first.1; reads = on.reads }) in
-      record { data = (subst (λ (o : Option Folder). IsDataOf o p types f.name f.opened c) (sym same) on.data.0, rest.data); first = (on.first.0, rest.first); reads = rest.reads }
+      let rest = turned_set x y p token types files i new cs now after most (omega arith) same one (record { are_data = on.are_data.1; first = on.first.1; reads = on.reads }) in
+      record { are_data = (subst (λ (o : Option Folder). IsDataOf o p types f.name f.opened c) (sym same) on.are_data.0, rest.are_data); first = (on.first.0, rest.first); reads = rest.reads }
 
   pub turning_next : (x y : Option Folder) (p : Partitioner) (token : ℕ) (types : List ColumnType) (files : List LookedFile) (i n : ℕ) (new : LookedFile) (contents : List Content) (now after most : ℕ) → i < length files → n ≡ suc i → y ≡ x
       → ((content : Content) → IsDataOf x p types (slice_index_or files i d).name (slice_index_or files i d).opened content
-        → IsDataOf y p types new.name new.opened content × HasTokenKeys p token new content × (after ≤ now + (opening_reads (slice_index_or files i d).opened + keys_reads p token content)))
+      → IsDataOf y p types new.name new.opened content × HasTokenKeys p token new content × (after ≤ now + (opening_reads (slice_index_or files i d).opened + keys_reads p token content)))
       → IsTurning x p token types i files contents now most → IsTurning y p token types n (slice_set files i new) contents after most
   turning_next x y p token types files i n new contents now after most at next same one on =
       subst (λ (k : ℕ). IsTurning y p token types k (slice_set files i new) contents after most) (sym next) (turned_set x y p token types files i new contents now after most at same one on)
@@ -134,10 +134,10 @@ module _ (d : LookedFile) where
       → ((content : Content) → IsDataOf x p types (slice_index_or files i d).name (slice_index_or files i d).opened content → after ≤ now + (opening_reads (slice_index_or files i d).opened + keys_reads p token content))
       → IsTurning x p token types i files contents now most → after ≤ most
   turning_fails x p token types [] i contents now after most at one on = absurd (omega arith)
-  turning_fails x p token types (f ∷ files) i [] now after most at one on = absurd on.data
-  turning_fails x p token types (f ∷ files) zero (c ∷ cs) now after most at one on = omega (arith, one c on.data.0, on.reads)
+  turning_fails x p token types (f ∷ files) i [] now after most at one on = absurd on.are_data
+  turning_fails x p token types (f ∷ files) zero (c ∷ cs) now after most at one on = omega (arith, one c on.are_data.0, on.reads)
   turning_fails x p token types (f ∷ files) (suc i) (c ∷ cs) now after most at one on =
-      turning_fails x p token types files i cs now after most (omega arith) one (record { data = on.data.1; first = on.first.1; reads = on.reads })
+      turning_fails x p token types files i cs now after most (omega arith) one (record { are_data = on.are_data.1; first = on.first.1; reads = on.reads })
 
   -- ---- a call on one file is a call on all of them
 
@@ -166,7 +166,7 @@ module _ (d : LookedFile) where
 
   pub faults_set : {T : Type 0} (types : List ColumnType) (u v : View) (files : List LookedFile) (i : ℕ) (new : LookedFile) (r : Result T ReadFault) → i < length files → v.files ≡ u.files → new.name ≡ (slice_index_or files i d).name
       → StreamFaults (FileShows types (slice_index_or files i d).name u.files) (FileShows types (slice_index_or files i d).name v.files)
-        (λ (has : Partitioner × Content). IsDataOf u.files has.0 types (slice_index_or files i d).name (slice_index_or files i d).opened has.1) u v r
+      (λ (has : Partitioner × Content). IsDataOf u.files has.0 types (slice_index_or files i d).name (slice_index_or files i d).opened has.1) u v r
       → StreamFaults (FilesShow types u.files files) (FilesShow types v.files (slice_set files i new)) (AreRight u.files types files) u v r
   faults_set types u v files i new r at same named one = record {
     causes = one.causes;

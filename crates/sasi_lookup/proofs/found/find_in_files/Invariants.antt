@@ -17,9 +17,9 @@ invariant-loop-file g l =
     record {
       can : CanStream (g.P.PageReader.agrees l.pages) (FilesOpen l.files) (view l.host);
       finding : (p : Partitioner) (token : ℕ) (types : List ColumnType) (contents : List Content) → FilesReady types (view l.fn.host).files l.files → AreTurned (view l.fn.host).files types l.files (p, (token, contents))
-        → IsFinding (view l.fn.host).files types p token l.key (drop l.file-index l.files) contents l.found (view l.host).reads ((view l.fn.host).reads + found_pages l.key contents);
+          → IsFinding (view l.fn.host).files types p token l.key (drop l.file-index l.files) contents l.found (view l.host).reads ((view l.fn.host).reads + found_pages l.key contents);
       of_parts : (types : List ColumnType) (maps : List MemtableView) → FilesReady types (view l.fn.host).files l.files → IfSome l.found (IsMergeOfParts types maps l.key);
       read : HasStreamed (g.P.PageReader.agrees l.pages) (g.P.PageReader.covers l.fn.pages) (g.P.PageReader.covers l.pages) (FilesOpen l.files) (FilesOpen l.files) (view l.fn.host) (view l.host);
       faults : (types : List ColumnType) → FilesReady types (view l.fn.host).files l.files
-        → StreamFaults {T = ℕ} (FilesShow types (view l.fn.host).files l.files) (FilesShow types (view l.host).files l.files) (AreTurned (view l.fn.host).files types l.files) (view l.fn.host) (view l.host) (Ok 0);
+          → StreamFaults {T = ℕ} (FilesShow types (view l.fn.host).files l.files) (FilesShow types (view l.host).files l.files) (AreTurned (view l.fn.host).files types l.files) (view l.fn.host) (view l.host) (Ok 0);
     }

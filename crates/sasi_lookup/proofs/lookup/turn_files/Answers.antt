@@ -37,7 +37,7 @@ returns-in_err-turn_to-clause-data g c p contents are =
     let w = g.H.Host.view c.turn_to.new.host in
     let at : c.loop-file.file-index < length c.loop-file.files = omega (arith, c.loop-file-test.true, c.loop-file.auto.files) in
     data_set c.file-item.result v.files w.files p c.args.types.now c.loop-file.files c.loop-file.file-index c.turn_to.new.self contents at (files_same v w c.turn_to.ensures.read.changes)
-    (λ content is. c.turn_to.ensures.data p content is) (c.loop-file.invariant.turning p contents are).data
+    (λ content is. c.turn_to.ensures.data p content is) (c.loop-file.invariant.turning p contents are).are_data
 
 pub returns-in_err-turn_to-clause-reads : goal.returns-in_err-turn_to-clause-reads
 returns-in_err-turn_to-clause-reads g c p contents are =
@@ -70,7 +70,7 @@ returns-in_err-turn_to-clause-faults g c =
     let at : c.loop-file.file-index < length c.loop-file.files = omega (arith, c.loop-file-test.true, c.loop-file.auto.files) in
     let one = faults_set c.file-item.result c.args.types.now v w c.loop-file.files c.loop-file.file-index c.turn_to.new.self c.turn_to.result at (files_same v w c.turn_to.ensures.read.changes) c.turn_to.ensures.named c.turn_to.ensures.faults in
     rw (p.1, p.2)
-    (faults_then _ _ _ _ _ (g.H.Host.view c.args.host.now) v w 0 _ (λ has are. (has, (inv.turning has.0 has.1 are).data)) inv.faults
+    (faults_then _ _ _ _ _ (g.H.Host.view c.args.host.now) v w 0 _ (λ has are. (has, (inv.turning has.0 has.1 are).are_data)) inv.faults
     (faults_handed _ _ _ _ v w c.turn_to.result c.in_err-turn_to.field-0.0 c.in_err-turn_to.was (λ has are. (has, are)) one))
 
 pub loop-file-preserved : goal.loop-file-preserved
@@ -93,7 +93,7 @@ loop-file-preserved g c =
           turning_next d v.files w.files p c.args.token c.args.types.now files i _ new contents v.reads w.reads _ at (omega arith) same
           (λ content is. (c.turn_to.ensures.data p content is, c.in_ok-turn_to.ensures.keys p content is, c.turn_to.ensures.reads p content is)) (inv.turning p contents are);
       read = streamed_then _ _ _ _ _ _ _ _ (g.H.Host.view c.args.host.now) v w inv.read read;
-      faults = faults_ok _ _ _ _ (g.H.Host.view c.args.host.now) w _ 0 (faults_then _ _ _ _ _ (g.H.Host.view c.args.host.now) v w 0 _ (λ has are. (has, (inv.turning has.0 has.1 are).data)) inv.faults
+      faults = faults_ok _ _ _ _ (g.H.Host.view c.args.host.now) w _ 0 (faults_then _ _ _ _ _ (g.H.Host.view c.args.host.now) v w 0 _ (λ has are. (has, (inv.turning has.0 has.1 are).are_data)) inv.faults
           (faults_set d c.args.types.now v w files i new _ at same c.turn_to.ensures.named c.in_ok-turn_to.ensures.faults));
     }
 
@@ -101,7 +101,7 @@ pub returns-clause-names : goal.returns-clause-names
 returns-clause-names g c = c.loop-file.invariant.names
 
 pub returns-clause-data : goal.returns-clause-data
-returns-clause-data g c p contents are = (c.loop-file.invariant.turning p contents are).data
+returns-clause-data g c p contents are = (c.loop-file.invariant.turning p contents are).are_data
 
 pub returns-clause-keys : goal.returns-clause-keys
 returns-clause-keys g c p contents are =
