@@ -1,5 +1,5 @@
 -- Calls on one data file.
-use Rattle.std.proofs.Common.{◌≡◌, ℕ, zero, suc, ◌+◌, ◌-◌, ◌*◌, ◌<◌, ◌≤◌, List, [], ◌∷◌, length, get_or, Option, None, Some, IfErr, IfOk, IfSome, IsSome, Result, Ok, Err, refl, sym, ap, subst, ◌∙◌, arith, inl, inr, ⊎_elim}
+use Rattle.std.proofs.Common.{◌≡◌, ℕ, zero, suc, ◌+◌, ◌-◌, ◌*◌, ◌<◌, ◌≤◌, List, [], ◌∷◌, length, get_or, Option, None, Some, IfErr, IfOk, IfSome, IsSome, Result, Ok, Err, refl, sym, ap, subst, ◌∙◌, arith, inl}
 use Rattle.std.specs.Prelude.{Contains}
 use Rattle.std.specs.List.{AllByRecursion}
 use Rattle.sasi_types.specs.declared.column.ColumnType.{ColumnType}
@@ -9,7 +9,7 @@ use Rattle.sasi_host.specs.declared.damage.Damage.{Damage}
 use Rattle.sasi_host.specs.declared.fault.ReadFault.{ReadFault}
 use Rattle.sasi_host.specs.declared.fault.ReadFault.TheVariants as fault
 use Rattle.sasi_host.specs.declared.name.FileName.{FileName}
-use Rattle.sasi_host.specs.Damages.{DamageShown, OnDamage}
+use Rattle.sasi_host.specs.Damages.{DamageShown}
 use Rattle.sasi_host.specs.Disk.{Changes, Same}
 use Rattle.sasi_host.specs.Names.{Bytes, Folder}
 use Rattle.sasi_host.specs.PageReading.{CanRead, HasRead}
@@ -23,7 +23,7 @@ use Rattle.sasi_datawrite.specs.Format.{Content, header}
 use Rattle.sasi_datawrite.proofs.Laws.{pairs_length}
 use Rattle.sasi_dataread.specs.declared.token_keys.PlacedKey.{PlacedKey}
 use Rattle.sasi_dataread.specs.Bodies.{IsPartitionOffset}
-use Rattle.sasi_dataread.specs.Damages.{ShowsData, ShowsDataFile, ShowsHeaderOrFooter, opened_by}
+use Rattle.sasi_dataread.specs.Damages.{ShowsData, ShowsHeaderOrFooter, opened_by}
 use Rattle.sasi_dataread.specs.Damages.ShowsDataFile.{inside, outside}
 use Rattle.sasi_dataread.specs.Finds.{token_reads}
 use Rattle.sasi_dataread.specs.HeaderAndFooter.{HasHeaderAndFooter}

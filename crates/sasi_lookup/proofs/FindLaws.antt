@@ -9,7 +9,6 @@ use Rattle.sasi_types.specs.Token.{token_of}
 use Rattle.sasi_model.specs.Cells.{Partition, empty_partition, merge}
 use Rattle.sasi_model.specs.State.{decorated}
 use Rattle.sasi_cells.specs.Maps.{joined}
-use Rattle.sasi_host.specs.declared.damage.Damage.{Damage}
 use Rattle.sasi_host.specs.declared.fault.ReadFault.{ReadFault}
 use Rattle.sasi_host.specs.Names.{Bytes, Folder}
 use Rattle.sasi_host.specs.View.{View}

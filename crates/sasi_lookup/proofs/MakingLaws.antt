@@ -1,5 +1,5 @@
 -- A look-up before its first token.
-use Rattle.std.proofs.Common.{◌≡◌, ℕ, List, [], ◌∷◌, map, Option}
+use Rattle.std.proofs.Common.{ℕ, List, [], ◌∷◌, map, Option}
 use Rattle.sasi_types.specs.declared.column.ColumnType.{ColumnType}
 use Rattle.sasi_types.specs.declared.partitioner.Partitioner.{Partitioner}
 use Rattle.sasi_host.specs.Names.{Folder}

@@ -1,5 +1,5 @@
 -- The partition of a key in an open file.
-use Rattle.std.proofs.Common.{◌≡◌, ℕ, ◌+◌, ◌<◌, ◌≤◌, Bool, true, false, List, length, Option, None, Some, IfErr, IfOk, IfSome, IsSome, Result, Ok, Err, refl, sym, ap, subst, ◌∙◌, arith}
+use Rattle.std.proofs.Common.{◌≡◌, ℕ, ◌+◌, ◌≤◌, true, false, List, length, Option, None, Some, IfErr, IfOk, IfSome, IsSome, Result, refl, sym, ap, subst, ◌∙◌, arith}
 use Rattle.std.specs.Prelude.{Contains}
 use Rattle.std.specs.FinMap as map_
 use Rattle.std.specs.List.{AllByRecursion}
@@ -10,10 +10,8 @@ use Rattle.sasi_types.specs.Key.{key_eq}
 use Rattle.sasi_types.specs.Token.{token_of}
 use Rattle.sasi_model.specs.Cells.{Partition}
 use Rattle.sasi_model.specs.State.{decorated}
-use Rattle.sasi_host.specs.declared.damage.Damage.{Damage}
 use Rattle.sasi_host.specs.declared.fault.ReadFault.{ReadFault}
 use Rattle.sasi_host.specs.declared.fault.ReadFault.TheVariants as fault
-use Rattle.sasi_host.specs.declared.name.FileName.{FileName}
 use Rattle.sasi_host.specs.Damages.{DamageShown, OnDamage}
 use Rattle.sasi_host.specs.Disk.{Changes, Same}
 use Rattle.sasi_host.specs.Names.{Bytes}
@@ -23,7 +21,7 @@ use Rattle.sasi_host.proofs.ContentLaws.{contents_same}
 use Rattle.sasi_body.specs.Body.{IsBodyOf, body}
 use Rattle.sasi_datawrite.specs.Format.{Content, IsContent, header}
 use Rattle.sasi_dataread.specs.declared.token_keys.PlacedKey.{PlacedKey}
-use Rattle.sasi_dataread.specs.Bodies.{IsPartitionOffset, partition_pages}
+use Rattle.sasi_dataread.specs.Bodies.{partition_pages}
 use Rattle.sasi_dataread.specs.Damages.{ShowsData, ShowsPair, ShowsPartition}
 use Rattle.sasi_dataread.specs.Damages.ShowsData.{at_pair}
 use Rattle.sasi_dataread.specs.Damages.ShowsPair.{in_partition}
@@ -39,7 +37,7 @@ use Rattle.sasi_scan.proofs.KeyLookups.{looked_up}
 use Rattle.sasi_lookup.specs.Files.{FileShows, IsAtPair, IsFileReady, IsOpenWith, IsTurnedFile, LookedFile}
 use Rattle.sasi_lookup.specs.KeySearches.{HasNo}
 use Rattle.sasi_lookup.specs.Reads.{key_pages}
-use Rattle.sasi_lookup.proofs.ContentLaws.{has_none, is_same_key, key_itself, key_stands, keys_rise}
+use Rattle.sasi_lookup.proofs.ContentLaws.{has_none, key_itself, key_stands}
 use Rattle.sasi_lookup.proofs.FileLaws.{all_has, data_shown, if_ok, open_on, own_cost}
 
 -- ---- a key that is among those of the token

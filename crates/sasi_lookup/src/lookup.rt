@@ -138,6 +138,9 @@ impl Lookup {
             → token_of partitioner key.now ≡ token → found ≡ found_in (decorated partitioner key.now) None (file_maps partitioner contents)) }
         // In any file it is the merge of what the files have of the key.
         ensures of_parts { (maps : List MemtableView) → IfOk result (λ found. IfSome found (IsMergeOfParts self.now.types maps key.now)) }
+        // What is known of the files stays, also where it fails.
+        ensures looks { (partitioner : Partitioner) (contents : List Content) → IsLookingIn (H.view host.old).files partitioner contents self.now → IsLookingIn (H.view host.new).files partitioner contents self.now }
+        ensures ready { IsReady self.now (H.view host.new).files }
         ensures reads { (partitioner : Partitioner) (token : ℕ) (contents : List Content) → IsLookingIn (H.view host.old).files partitioner contents self.now → HasKeysOf partitioner token contents self.now
             → (H.view host.new).reads ≤ (H.view host.old).reads + found_pages key.now contents }
         ensures read { HasStreamed (P.agrees pages.new) (P.covers pages.old) (P.covers pages.new) (Opens self.now) (Opens self.now) (H.view host.old) (H.view host.new) }

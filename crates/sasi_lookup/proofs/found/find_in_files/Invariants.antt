@@ -1,4 +1,4 @@
-use Rattle.std.proofs.Common.{◌≡◌, ◌+◌, ℕ, List, IfSome, Ok, drop}
+use Rattle.std.proofs.Common.{◌+◌, ℕ, List, IfSome, Ok, drop}
 use Rattle.sasi_types.specs.declared.column.ColumnType.{ColumnType}
 use Rattle.sasi_types.specs.declared.partitioner.Partitioner.{Partitioner}
 use Rattle.sasi_datawrite.specs.Format.{Content}

@@ -1,4 +1,4 @@
-use Rattle.std.proofs.Common.{◌≡◌, map, take}
+use Rattle.std.proofs.Common.{◌≡◌, take}
 use Rattle.sasi_lookup.specs.Lookups.{unopened_files}
 use Rattle.sasi_lookup.proofs.lookup.unopened_files.Given as goal
 

@@ -1,8 +1,8 @@
-use Rattle.std.proofs.Common.{◌+◌, ◌≤◌, IfSome, None, Option, Some, subst, sym, arith}
+use Rattle.std.proofs.Common.{◌+◌, ◌≤◌, IfSome, Option, subst, sym}
 use Rattle.std.proofs.lemmas.Result.{err_from_is_err_and}
 use Rattle.sasi_dataread.specs.Opened.{IsOpenedAs, OpenDataFile}
 use Rattle.sasi_ranges.proofs.Calling.{fails_nothing, faults_handed}
-use Rattle.sasi_lookup.specs.Files.{FileShows, IsOpenIn}
+use Rattle.sasi_lookup.specs.Files.{IsOpenIn}
 use Rattle.sasi_lookup.specs.Reads.{opening_reads}
 use Rattle.sasi_lookup.proofs.FileLaws.{opened_now, opening_faults, reads_none}
 use Rattle.sasi_lookup.proofs.opening.open_file.Goals as goal

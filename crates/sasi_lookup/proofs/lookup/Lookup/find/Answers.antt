@@ -1,8 +1,10 @@
-use Rattle.std.proofs.Common.{◌≡◌, ◌∙◌, List, ap, subst, sym}
+use Rattle.std.proofs.Common.{◌≡◌, ◌∙◌, List, Option, ap, subst, sym}
 use Rattle.std.specs.List.{AllByRecursion}
+use Rattle.sasi_host.specs.Names.{Folder}
 use Rattle.sasi_ranges.specs.StreamCalls.{CanStream, HasStreamed}
+use Rattle.sasi_ranges.proofs.Calling.{files_same}
 use Rattle.sasi_lookup.specs.Files.{IsNamed, LookedFile}
-use Rattle.sasi_lookup.specs.Lookups.{FilesOpen, LookupView}
+use Rattle.sasi_lookup.specs.Lookups.{FilesOpen, IsLookingIn, IsReady, LookupView}
 use Rattle.sasi_lookup.proofs.FindLaws.{ready_named}
 use Rattle.sasi_lookup.proofs.LookupLaws.{lookup_faults, lookup_found, lookup_of_parts, lookup_reads}
 use Rattle.sasi_lookup.proofs.lookup.Lookup.find.Goals as goal
@@ -42,3 +44,13 @@ pub returns-clause-faults : goal.returns-clause-faults
 returns-clause-faults g c =
     let same : c.deref.result.now ≡ c.args.self.now.files = c.deref.ensures.value ∙ ap (λ (l : LookupView). l.files) c.self.view_is in
     lookup_faults (g.H.Host.view c.args.host.now) (g.H.Host.view c.find_in_files.new.host) c.args.self.now c.deref.result.now same c.requires.ready c.find_in_files.result c.find_in_files.ensures.faults
+
+pub returns-clause-looks : goal.returns-clause-looks
+returns-clause-looks g c p contents are =
+    let same = files_same (g.H.Host.view c.args.host.now) (g.H.Host.view c.find_in_files.new.host) c.find_in_files.ensures.read.changes in
+    subst (λ (x : Option Folder). IsLookingIn x p contents c.args.self.now) (sym same) are
+
+pub returns-clause-ready : goal.returns-clause-ready
+returns-clause-ready g c =
+    let same = files_same (g.H.Host.view c.args.host.now) (g.H.Host.view c.find_in_files.new.host) c.find_in_files.ensures.read.changes in
+    subst (λ (x : Option Folder). IsReady c.args.self.now x) (sym same) c.requires.ready

@@ -1,5 +1,4 @@
-use Rattle.std.proofs.Common.{◌≡◌, ◌∙◌, IfSome, List, None, Option, Some, ap, arith, subst, sym}
-use Rattle.sasi_dataread.specs.declared.token_keys.PlacedKey.{PlacedKey}
+use Rattle.std.proofs.Common.{◌≡◌, ◌∙◌, IfSome, None, Option, Some, ap, arith, subst, sym}
 use Rattle.sasi_dataread.specs.Opened.{OpenDataFile}
 use Rattle.sasi_ranges.proofs.Calling.{fails_nothing}
 use Rattle.sasi_lookup.specs.Files.{LookedFile}

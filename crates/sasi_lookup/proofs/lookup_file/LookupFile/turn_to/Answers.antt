@@ -1,7 +1,5 @@
-use Rattle.std.proofs.Common.{◌≡◌, ◌∙◌, Option, ap, refl, subst, sym}
+use Rattle.std.proofs.Common.{◌≡◌, ◌∙◌, ap, refl}
 use Rattle.std.proofs.lemmas.Result.{err_from_is_err_and}
-use Rattle.sasi_host.specs.declared.name.FileName.{FileName}
-use Rattle.sasi_dataread.specs.Opened.{OpenDataFile}
 use Rattle.sasi_ranges.proofs.Calling.{faults_handed, faults_ok}
 use Rattle.sasi_lookup.specs.Files.{LookedFile}
 use Rattle.sasi_lookup.proofs.FileLaws.{can_read_as, closed_data, closed_ready, data_as, faults_in_file, open_before, read_as, reads_as}
