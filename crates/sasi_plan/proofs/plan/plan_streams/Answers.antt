@@ -1,0 +1,28 @@
+use Rattle.std.proofs.Common.{◌∙◌, ap}
+use Rattle.sasi_plan.specs.HitLists.{columns_of}
+use Rattle.sasi_plan.proofs.Leaving.{streams_leave}
+use Rattle.sasi_plan.proofs.Opening.{streams_open, streams_ready, streams_show}
+use Rattle.sasi_plan.proofs.Paying.{streams_pay}
+use Rattle.sasi_plan.proofs.Places.{view_placed, view_served}
+use Rattle.sasi_plan.specs.inside.Sources.{all_sources}
+use Rattle.sasi_plan.proofs.plan.plan_streams.Goals as goal
+
+pub returns-clause-leaves : goal.returns-clause-leaves
+returns-clause-leaves c folder p t asked seen is =
+    record {
+      leaves = streams_leave folder p t c.args.maps.now c.args.types.now c.args.relations.now c.args.parts.now asked seen _ is c.in_ok-made.ensures.streams;
+      serving_is = c.in_ok-relations.ensures ∙ ? ∙ view_served folder p t c.args.maps.now c.args.types.now c.args.relations.now c.args.parts.now asked seen is;
+      hits_are = c.in_ok-made.ensures.parts ∙ view_placed folder p t c.args.maps.now c.args.types.now c.args.relations.now c.args.parts.now asked seen is;
+    }
+
+pub returns-clause-pays : goal.returns-clause-pays
+returns-clause-pays c folder p t conditions seen is short = streams_pay folder p t c.args.maps.now c.args.types.now c.args.relations.now c.args.parts.now conditions seen _ is short c.in_ok-made.ensures.streams
+
+pub returns-clause-ready : goal.returns-clause-ready
+returns-clause-ready c files = streams_ready files (all_sources c.args.maps.now c.args.types.now c.args.relations.now 0 c.args.parts.now) _ c.in_ok-made.ensures.streams
+
+pub returns-clause-opens : goal.returns-clause-opens
+returns-clause-opens c name opens = streams_open c.args.maps.now c.args.types.now c.args.relations.now c.args.parts.now _ name c.in_ok-made.ensures.streams opens
+
+pub returns-clause-shows : goal.returns-clause-shows
+returns-clause-shows c files damage shows = streams_show c.args.maps.now c.args.types.now c.args.relations.now c.args.parts.now _ files damage c.in_ok-made.ensures.streams shows

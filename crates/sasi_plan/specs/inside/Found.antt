@@ -1,0 +1,60 @@
+-- The keys of a map that a relation finds.
+use Rattle.std.specs.Prelude.{◌≡◌, ℕ, ◌≤◌, Bool, nat_eq, List, [], length, map, Option, None, Some}
+use Rattle.std.specs.FinMap as map_
+use Rattle.std.specs.List.{AllByRecursion, filter, list_all, list_any}
+use Rattle.std.specs.Map.{lookup}
+use Rattle.std.specs.Option.{option_map_or}
+use Rattle.std.specs.Ordering.{eq_by_cmp}
+use Rattle.sasi_types.specs.declared.decorated_key.DecoratedKey.{DecoratedKey}
+use Rattle.sasi_types.specs.DecoratedKey.{decorated_cmp}
+use Rattle.sasi_terms.specs.declared.op.Op.{Op}
+use Rattle.sasi_model.specs.Abbreviations.{Partitions}
+use Rattle.sasi_model.specs.Cells.{Partition}
+use Rattle.sasi_model.specs.IndexTerms.{any_holds, terms_of_cell}
+use Rattle.sasi_memindex.specs.declared.map_part.MapPart.{MapPart}
+use Rattle.sasi_memindex.specs.IndexOf.{IsIndexOf}
+use Rattle.sasi_memindex.specs.MemIndexView.{MemIndexView}
+use Rattle.sasi_plan.specs.declared.found_keys.Keys.{Keys}
+use Rattle.sasi_plan.specs.declared.found_keys.Keys.TheVariants.{OfOne, OfAll}
+use Rattle.sasi_plan.specs.declared.relation.IndexedRelation.{IndexedRelation}
+
+abbrev pub keys_of : Keys → List DecoratedKey
+keys_of (OfOne keys) = keys
+keys_of (OfAll keys) = keys.items
+
+-- ---- several lists
+
+-- the key is in each of the lists
+abbrev pub is_in_all : List (List DecoratedKey) → DecoratedKey → Bool
+is_in_all lists q = list_all (list_any (eq_by_cmp decorated_cmp q)) lists
+
+-- ---- a map
+
+-- for each of the words some term of the column's current cell is as the operator asks
+abbrev pub all_hold : Op → List (List ℕ) → MemIndexView → Partition → Bool
+all_hold op words index p = list_all (λ word. any_holds op word (terms_of_cell index.rule (map_.get p.cells index.column))) words
+
+-- the keys of the map where that is so, in their order
+abbrev pub keys_with : Op → List (List ℕ) → MemIndexView → Partitions → List DecoratedKey
+keys_with op words index m = map (λ e. e.0) (filter (λ e. all_hold op words index e.1) (map_.entries m))
+
+-- the index of the map that the relation names
+abbrev pub index_for : IndexedRelation → MapPart → Option MemIndexView
+index_for relation part = lookup (λ n. nat_eq n relation.index) part.indexes
+
+-- the keys that the relation finds in a map
+abbrev pub found_in : MapPart → IndexedRelation → List DecoratedKey
+found_in part relation = option_map_or (λ index. keys_with relation.op relation.words index part.map.partitions) (index_for relation part) []
+
+-- ---- what is asked of maps
+
+-- the map has the index that the relation names, and the index is that of the map
+pub record HasIndexFor (part : MapPart) (relation : IndexedRelation) : Type 0 where
+  pub index : MemIndexView
+  pub there : index_for relation part ≡ Some index
+  pub is : IsIndexOf part.map.partitions index
+
+-- so of the indexes of all these relations
+abbrev pub HasIndexes : List IndexedRelation → Option MapPart → Type 0
+HasIndexes relations None = ⊥
+HasIndexes relations (Some part) = AllByRecursion (HasIndexFor part) relations
