@@ -1,7 +1,7 @@
 -- The streams that are added one after another.
-use Rattle.std.proofs.Common.{◌≡◌, ℕ, zero, suc, ◌+◌, ◌<◌, ◌≤◌, Bool, true, false, cond, if◌then◌else◌, is_some, List, [], ◌∷◌, ◌++◌, length, map, drop, get_or, Option, None, Some, refl, sym, ap, ap₂, subst, ◌∙◌, add-one, arith, append_assoc, append-nil, length-append}
+use Rattle.std.proofs.Common.{◌≡◌, ℕ, suc, ◌+◌, ◌<◌, ◌≤◌, Bool, true, false, if◌then◌else◌, is_some, List, [], ◌∷◌, ◌++◌, length, map, drop, get_or, Option, None, Some, refl, sym, ap, ap₂, subst, ◌∙◌, add-one, arith, append_assoc, append-nil, length-append}
 use Rattle.std.proofs.Math.Seq.{drop-cons}
-use Rattle.std.proofs.lemmas.List.{drop_all, length-map, map-append}
+use Rattle.std.proofs.lemmas.List.{drop_all, map-append}
 use Rattle.std.specs.FinMap as map_
 use Rattle.std.specs.List.{AllByRecursion}
 use Rattle.sasi_types.specs.declared.column.ColumnType.{ColumnType}
@@ -16,9 +16,9 @@ use Rattle.sasi_plan.specs.declared.part_hits.PartHits.{PartHits}
 use Rattle.sasi_plan.specs.declared.relation.IndexedRelation.{IndexedRelation}
 use Rattle.sasi_plan.specs.Asked.{first_lacking}
 use Rattle.sasi_plan.specs.HitLists.{key_count, own_count, own_positions, part_positions, position_rows}
-use Rattle.sasi_plan.specs.Parts.{HitsIn, hits_in}
+use Rattle.sasi_plan.specs.Parts.{hits_in}
 use Rattle.sasi_plan.specs.inside.Found.{HasIndexFor, HasIndexes, found_in}
-use Rattle.sasi_plan.specs.inside.Sources.{Adds, AreStreams, CanFind, HasWords, IsStream, OfMap, Planned, all_hits, all_sources, file_sources, files_with, found_sources, has_part, key_source, map_sources, own_source, own_sources, part_bits, part_for, part_hits, part_sources}
+use Rattle.sasi_plan.specs.inside.Sources.{Adds, AreStreams, CanFind, HasWords, IsStream, OfMap, Planned, all_hits, all_sources, files_with, found_sources, has_part, key_source, map_sources, own_source, own_sources, part_bits, part_for, part_hits, part_sources}
 
 -- ---- streams behind one another
 

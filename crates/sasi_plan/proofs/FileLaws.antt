@@ -1,5 +1,5 @@
 -- A data file of a view, in its table.
-use Rattle.std.proofs.Common.{◌≡◌, ℕ, zero, suc, ◌+◌, ◌<◌, ◌≤◌, Bool, true, false, cond, ◌||◌, nat_eq, is_some, List, [], ◌∷◌, length, map, slice_index_or, Option, None, Some, refl, sym, ap, subst, ◌∙◌, arith}
+use Rattle.std.proofs.Common.{◌≡◌, ℕ, zero, suc, ◌<◌, ◌≤◌, Bool, true, false, cond, ◌||◌, nat_eq, is_some, List, [], ◌∷◌, length, map, slice_index_or, Option, Some, refl, sym, ap, subst, ◌∙◌, arith}
 use Rattle.std.proofs.lemmas.Bool.Decides.{nat_tests}
 use Rattle.std.proofs.lemmas.List.Sums.{sum_by-cons}
 use Rattle.std.specs.FinMap as map_
@@ -22,7 +22,7 @@ use Rattle.sasi_postings.specs.IndexFiles.{StandsForIndex}
 use Rattle.sasi_layout.proofs.Parts.{AreApart}
 use Rattle.sasi_layout.specs.Flushed.{contents_of}
 use Rattle.sasi_layout.specs.Layout.{File, TableParts}
-use Rattle.sasi_layout.specs.Shape.{HasFile, HasIndexFile, map_of}
+use Rattle.sasi_layout.specs.Shape.{HasFile, HasIndexFile}
 use Rattle.sasi_candidates.specs.LayoutParts.{columns_of}
 use Rattle.sasi_candidates.proofs.FileHits.{entries_of}
 use Rattle.sasi_candidates.proofs.FileIndexes.{HasOwnIndexes}

@@ -1,5 +1,5 @@
 -- The keys that a relation finds in a map are its hits there.
-use Rattle.std.proofs.Common.{◌≡◌, ℕ, suc, ◌≤◌, Bool, true, false, cond, nat_eq, List, [], ◌∷◌, length, map, slice_get, Option, None, Some, refl, sym, ap, subst, ◌∙◌, arith}
+use Rattle.std.proofs.Common.{◌≡◌, ℕ, suc, Bool, true, false, cond, nat_eq, List, [], ◌∷◌, map, Option, Some, refl, sym, ap, ◌∙◌, arith}
 use Rattle.std.specs.Prelude.{T, ◌&&◌}
 use Rattle.std.proofs.lemmas.Bool.Decides.{nat_tests}
 use Rattle.std.proofs.lemmas.List.Kept.{IsStrictlySortedBy-filter}
@@ -17,7 +17,6 @@ use Rattle.sasi_types.specs.declared.column.ColumnType.{ColumnType}
 use Rattle.sasi_types.specs.declared.decorated_key.DecoratedKey.{DecoratedKey}
 use Rattle.sasi_types.specs.declared.rule.Rule.{Rule}
 use Rattle.sasi_types.specs.DecoratedKey.{decorated_cmp}
-use Rattle.sasi_terms.specs.declared.op.Op.{Op}
 use Rattle.sasi_cells.proofs.Laws.Decorated.{entries_have}
 use Rattle.sasi_model.specs.Abbreviations.{Partitions, kind_of}
 use Rattle.sasi_model.specs.Cells.{Partition}
@@ -29,12 +28,12 @@ use Rattle.sasi_memindex.specs.Book.{AreKept, IsKept, subjects}
 use Rattle.sasi_memindex.specs.MemIndexView.{MemIndexView, Numbered, subject}
 use Rattle.sasi_layout.specs.Layout.{TableParts}
 use Rattle.sasi_candidates.specs.LayoutParts.{part_of_map}
-use Rattle.sasi_candidates.specs.Parts.{Part, hit_in_memory}
+use Rattle.sasi_candidates.specs.Parts.{Part}
 use Rattle.sasi_candidates.proofs.Hits.{memory_found}
 use Rattle.sasi_plan.specs.declared.relation.IndexedRelation.{IndexedRelation}
 use Rattle.sasi_plan.specs.Asked.{Asked, is_hit, keys_of}
 use Rattle.sasi_plan.specs.Views.{IsAsked, IsMapOf}
-use Rattle.sasi_plan.specs.inside.Found.{HasIndexFor, all_hold, found_in, index_for, keys_with}
+use Rattle.sasi_plan.specs.inside.Found.{HasIndexFor, all_hold, found_in, keys_with}
 
 -- ---- keys that pass
 

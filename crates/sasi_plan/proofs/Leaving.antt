@@ -1,16 +1,15 @@
 -- What the streams of a plan leave are the lists of hits.
-use Rattle.std.proofs.Common.{◌≡◌, ℕ, zero, suc, ◌+◌, ◌<◌, ◌≤◌, Bool, true, false, cond, ◌||◌, nat_eq, is_some, List, [], ◌∷◌, ◌++◌, length, map, Option, None, Some, refl, sym, ap, ap₂, subst, ◌∙◌, arith}
-use Rattle.std.specs.FinMap as map_
+use Rattle.std.proofs.Common.{◌≡◌, ℕ, suc, ◌≤◌, Bool, true, false, cond, nat_eq, is_some, List, [], ◌∷◌, ◌++◌, map, Option, None, Some, refl, sym, ap, ap₂, subst, ◌∙◌}
 use Rattle.std.specs.FinMap.{get}
-use Rattle.std.specs.List.{AllByRecursion, filter, find, list_any}
+use Rattle.std.specs.List.{AllByRecursion, filter}
 use Rattle.std.specs.List.Sorted.{IsStrictlySortedBy}
 use Rattle.sasi_types.specs.declared.column.ColumnType.{ColumnType}
 use Rattle.sasi_types.specs.declared.decorated_key.DecoratedKey.{DecoratedKey}
 use Rattle.sasi_types.specs.declared.partitioner.Partitioner.{Partitioner}
 use Rattle.sasi_types.specs.declared.tree.Pair.{Pair}
 use Rattle.sasi_types.specs.DecoratedKey.{decorated_cmp}
-use Rattle.sasi_host.specs.Names.{Bytes, Folder, data_name}
-use Rattle.sasi_model.specs.Abbreviations.{Partitions, kind_of, types_of}
+use Rattle.sasi_host.specs.Names.{Folder}
+use Rattle.sasi_model.specs.Abbreviations.{Partitions, types_of}
 use Rattle.sasi_model.specs.Conditions.{Search}
 use Rattle.sasi_model.specs.Indexes.{index_on}
 use Rattle.sasi_model.specs.State.{Index}
@@ -20,16 +19,15 @@ use Rattle.sasi_memindex.specs.declared.map_part.MapPart.{MapPart}
 use Rattle.sasi_manifest.specs.ListedFiles.{index_name}
 use Rattle.sasi_datawrite.specs.Files.{IsDataFile}
 use Rattle.sasi_datawrite.specs.Format.{Content, key_pairs}
-use Rattle.sasi_layout.specs.Flushed.{contents_of}
 use Rattle.sasi_layout.specs.Layout.{File, TableParts}
-use Rattle.sasi_layout.specs.Shape.{HasFile, HasIndexFile, map_of}
+use Rattle.sasi_layout.specs.Shape.{HasFile, map_of}
 use Rattle.sasi_views.specs.declared.part.Part as view
 use Rattle.sasi_views.specs.declared.part.Part.TheVariants as view_part
 use Rattle.sasi_ranges.specs.declared.entry.Entry.{Entry}
 use Rattle.sasi_ranges.specs.EachStream.{EachLeaves}
 use Rattle.sasi_candidates.specs.Costs.{has_index}
-use Rattle.sasi_candidates.specs.LayoutParts.{columns_of, part_of_file, part_of_map}
-use Rattle.sasi_candidates.specs.Parts.{Disk, Part, hit, hit_in_index, hit_on_disk}
+use Rattle.sasi_candidates.specs.LayoutParts.{part_of_file, part_of_map}
+use Rattle.sasi_candidates.specs.Parts.{Part, hit_in_index, hit_on_disk}
 use Rattle.sasi_candidates.specs.Searches.{keyed}
 use Rattle.sasi_candidates.proofs.FileIndexes.{HasOwnIndexes}
 use Rattle.sasi_hits.specs.declared.hits.Hits.{Hits}
@@ -41,10 +39,10 @@ use Rattle.sasi_hits.proofs.PartHits.{index_hits, pairs_of}
 use Rattle.sasi_plan.specs.declared.relation.IndexedRelation.{IndexedRelation}
 use Rattle.sasi_plan.specs.Asked.{Asked, first_lacking, hit_pairs, indexed_in, is_hit, keys_of}
 use Rattle.sasi_plan.specs.HitLists.{hit_lists, key_list, own_lists, part_lists}
-use Rattle.sasi_plan.specs.Views.{AreAsked, ArePartsOf, IsAsked, IsDecorated, IsFileOf, IsMapIn, IsMapOf, IsPartOf, IsPlannedFor}
+use Rattle.sasi_plan.specs.Views.{AreAsked, ArePartsOf, IsAsked, IsMapIn, IsMapOf, IsPartOf, IsPlannedFor}
 use Rattle.sasi_plan.specs.inside.Found.{found_in}
-use Rattle.sasi_plan.specs.inside.Sources.{AreStreams, IsStream, OfIndex, OfKeys, OfMap, Planned, all_sources, file_sources, found_sources, has_part, key_source, map_sources, own_source, own_sources, part_bits, part_for, part_sources}
-use Rattle.sasi_plan.proofs.FileLaws.{HasOwnFile, content_is, file_keys, own_file, part_column}
+use Rattle.sasi_plan.specs.inside.Sources.{AreStreams, IsStream, OfIndex, Planned, all_sources, file_sources, found_sources, has_part, key_source, map_sources, own_source, own_sources, part_bits, part_for, part_sources}
+use Rattle.sasi_plan.proofs.FileLaws.{content_is, own_file, part_column}
 use Rattle.sasi_plan.proofs.FoundLaws.{found_hits, hits_rise}
 
 -- an index of the table isn't on the key

@@ -1,17 +1,15 @@
 -- What the streams of a plan take is what its conditions may cost.
-use Rattle.std.proofs.Common.{◌≡◌, ℕ, zero, suc, ◌+◌, ◌*◌, ◌^◌, ◌<◌, ◌≤◌, Bool, true, false, cond, ◌||◌, not, if◌then◌else◌, nat_eq, is_some, List, [], ◌∷◌, ◌++◌, length, map, Option, None, Some, refl, sym, ap, ap₂, subst, ◌∙◌, arith}
+use Rattle.std.proofs.Common.{◌≡◌, ℕ, suc, ◌+◌, ◌*◌, ◌^◌, ◌≤◌, Bool, true, false, ◌||◌, not, if◌then◌else◌, is_some, List, [], ◌∷◌, ◌++◌, length, map, Option, None, Some, refl, sym, ap, ap₂, subst, ◌∙◌, arith}
 use Rattle.std.proofs.lemmas.Bool.{or_left, or_right}
 use Rattle.std.proofs.lemmas.List.Sums.{sum_by-cons}
 use Rattle.std.specs.FinMap.{get}
-use Rattle.std.specs.List.{AllByRecursion, filter, list_any, sum_by}
+use Rattle.std.specs.List.{list_any, sum_by}
 use Rattle.sasi_types.specs.declared.column.ColumnType.{ColumnType}
 use Rattle.sasi_types.specs.declared.partitioner.Partitioner.{Partitioner}
 use Rattle.sasi_host.specs.declared.name.FileName.{FileName}
 use Rattle.sasi_host.specs.Names.{Bytes, Folder, data_name, name_eq}
 use Rattle.sasi_model.specs.Abbreviations.{Partitions, types_of}
 use Rattle.sasi_model.specs.Conditions.{Condition, OfKey, Indexed, Plain, Search}
-use Rattle.sasi_model.specs.Indexes.{index_on}
-use Rattle.sasi_model.specs.State.{Index}
 use Rattle.sasi_manifest.specs.declared.files.PartNumber.{PartNumber}
 use Rattle.sasi_manifest.specs.ListedFiles.{index_name}
 use Rattle.sasi_memindex.specs.Book.{Book}
@@ -19,15 +17,14 @@ use Rattle.sasi_memindex.specs.declared.map_part.MapPart.{MapPart}
 use Rattle.sasi_datawrite.specs.Files.{IsDataFile}
 use Rattle.sasi_datawrite.specs.Format.{Content, data_bytes}
 use Rattle.sasi_dataread.specs.ReadCosts.{file_pages}
-use Rattle.sasi_layout.specs.Flushed.{contents_of}
 use Rattle.sasi_layout.specs.Layout.{File, TableParts}
-use Rattle.sasi_layout.specs.Shape.{HasFile, HasIndexFile, map_of}
+use Rattle.sasi_layout.specs.Shape.{HasFile}
 use Rattle.sasi_views.specs.declared.part.Part as view
 use Rattle.sasi_views.specs.declared.part.Part.TheVariants as view_part
 use Rattle.sasi_ranges.specs.EachStream.{EachPays}
 use Rattle.sasi_candidates.specs.Costs.{file_cost, files_of, has_index, is_on_disk, lacks_index, narrows, pages_of_file, reads_all, searches_cost}
 use Rattle.sasi_candidates.specs.Costs as costs
-use Rattle.sasi_candidates.specs.LayoutParts.{part_of_file, part_of_map}
+use Rattle.sasi_candidates.specs.LayoutParts.{part_of_file}
 use Rattle.sasi_candidates.specs.Parts.{Part}
 use Rattle.sasi_candidates.proofs.FileIndexes.{HasOwnIndexes}
 use Rattle.sasi_candidates.proofs.PairCounts.{word_cost}
@@ -38,8 +35,8 @@ use Rattle.sasi_hits.proofs.PartHits.{hits_cost, search_cost}
 use Rattle.sasi_plan.specs.declared.relation.IndexedRelation.{IndexedRelation}
 use Rattle.sasi_plan.specs.Asked.{Asked, asked_of, first_lacking, indexed_in}
 use Rattle.sasi_plan.specs.Plans.{AreShort, is_file_of, names_of}
-use Rattle.sasi_plan.specs.Views.{AreAsked, ArePartsOf, IsAsked, IsFileOf, IsMapIn, IsMapOf, IsPartOf, IsPlannedFor}
-use Rattle.sasi_plan.specs.inside.Sources.{AreStreams, IsStream, OfIndex, OfKeys, OfMap, Planned, all_sources, file_sources, found_sources, has_part, key_source, map_sources, own_source, own_sources, part_for, part_sources}
+use Rattle.sasi_plan.specs.Views.{AreAsked, ArePartsOf, IsAsked, IsMapIn, IsPlannedFor}
+use Rattle.sasi_plan.specs.inside.Sources.{AreStreams, IsStream, OfIndex, Planned, all_sources, file_sources, found_sources, has_part, key_source, map_sources, own_source, own_sources, part_for}
 use Rattle.sasi_plan.proofs.FileLaws.{HasOwnFile, content_is, own_file, part_column}
 use Rattle.sasi_plan.proofs.IndexLevels.{few_levels}
 use Rattle.sasi_plan.proofs.Leaving.{bits_are, regular_column}

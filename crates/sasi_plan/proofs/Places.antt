@@ -1,12 +1,11 @@
 -- Where the hits of a plan are, in the parts of the table.
-use Rattle.std.proofs.Common.{◌≡◌, ℕ, suc, ◌+◌, ◌≤◌, length, Bool, List, [], ◌∷◌, map, Option, None, Some, refl, sym, ap, ap₂, subst, ◌∙◌, arith}
+use Rattle.std.proofs.Common.{◌≡◌, ℕ, suc, ◌+◌, ◌≤◌, length, List, [], ◌∷◌, map, Option, None, Some, refl, sym, ap, ap₂, subst, ◌∙◌, arith}
 use Rattle.std.specs.FinMap.{get}
 use Rattle.std.specs.List.{AllByRecursion, filter}
 use Rattle.sasi_types.specs.declared.column.ColumnType.{ColumnType}
 use Rattle.sasi_types.specs.declared.decorated_key.DecoratedKey.{DecoratedKey}
 use Rattle.sasi_types.specs.declared.partitioner.Partitioner.{Partitioner}
 use Rattle.sasi_host.specs.Names.{Folder}
-use Rattle.sasi_model.specs.Abbreviations.{types_of}
 use Rattle.sasi_model.specs.Conditions.{Search}
 use Rattle.sasi_manifest.specs.declared.files.PartNumber.{PartNumber}
 use Rattle.sasi_memindex.specs.Book.{Book}
@@ -14,7 +13,6 @@ use Rattle.sasi_memindex.specs.declared.map_part.MapPart.{MapPart}
 use Rattle.sasi_layout.specs.Layout.{TableParts}
 use Rattle.sasi_views.specs.declared.part.Part as view
 use Rattle.sasi_views.specs.declared.part.Part.TheVariants as view_part
-use Rattle.sasi_candidates.specs.LayoutParts.{part_of_file, part_of_map}
 use Rattle.sasi_candidates.specs.Parts.{Part}
 use Rattle.sasi_candidates.proofs.FileIndexes.{HasOwnIndexes}
 use Rattle.sasi_plan.specs.declared.relation.IndexedRelation.{IndexedRelation}

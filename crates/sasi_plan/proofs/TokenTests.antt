@@ -1,5 +1,5 @@
 -- Which tokens the lists of hits have.
-use Rattle.std.proofs.Common.{◌≡◌, ℕ, suc, ◌+◌, length, Bool, true, false, cond, ◌&&◌, ◌||◌, nat_eq, is_some, List, [], ◌∷◌, map, Option, refl, sym, ap, subst, ◌∙◌}
+use Rattle.std.proofs.Common.{◌≡◌, ℕ, suc, ◌+◌, length, Bool, true, false, cond, ◌&&◌, ◌||◌, nat_eq, is_some, List, [], ◌∷◌, map, refl, sym, ap, ◌∙◌}
 use Rattle.std.proofs.lemmas.Cmp.{tied_itself}
 use Rattle.std.specs.FinMap as map_
 use Rattle.std.specs.FinMap.Entries.{is_some-find}
@@ -21,7 +21,6 @@ use Rattle.sasi_candidates.specs.Parts.{Disk, Memory, Origin, Part, hit_at, hit_
 use Rattle.sasi_candidates.specs.Searches.{keyed}
 use Rattle.sasi_hits.specs.MapHits.{placed}
 use Rattle.sasi_hits.specs.Pairs.{entries_of}
-use Rattle.sasi_hits.proofs.PartHits.{pairs_of}
 use Rattle.sasi_plan.specs.Asked.{Asked, has_hit, hit_pairs, is_hit, keys_of, placed_in}
 use Rattle.sasi_plan.specs.Views.{IsDecorated}
 

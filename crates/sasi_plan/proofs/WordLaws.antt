@@ -1,12 +1,10 @@
 -- The keys that the searches of all words give.
-use Rattle.std.proofs.Common.{◌≡◌, ℕ, ◌+◌, ◌<◌, Bool, true, false, cond, ◌&&◌, List, [], ◌∷◌, ◌++◌, length, map, drop, get_or, Option, None, Some, refl, sym, ap, ap₂, subst, ◌∙◌}
+use Rattle.std.proofs.Common.{◌≡◌, ℕ, ◌+◌, ◌<◌, ◌≤◌, Bool, true, false, cond, if◌then◌else◌, ◌&&◌, List, [], ◌∷◌, ◌++◌, length, map, drop, get_or, Option, Some, refl, sym, ap, ap₂, subst, ◌∙◌, append_assoc, append-nil}
+use Rattle.std.proofs.lemmas.List.{drop_all}
 use Rattle.std.specs.FinMap as map_
-use Rattle.std.specs.List.{AllByRecursion, filter, list_all, list_any}
-use Rattle.std.specs.List.Sorted.{IsStrictlySortedBy}
+use Rattle.std.specs.List.{AllByRecursion, filter}
 use Rattle.std.specs.Option.{option_map_or}
-use Rattle.std.specs.Ordering.{eq_by_cmp}
 use Rattle.sasi_types.specs.declared.decorated_key.DecoratedKey.{DecoratedKey}
-use Rattle.sasi_types.specs.DecoratedKey.{decorated_cmp}
 use Rattle.sasi_terms.specs.declared.op.Op.{Op}
 use Rattle.sasi_cells.proofs.Laws.Decorated.{entries_have}
 use Rattle.sasi_model.specs.Abbreviations.{Partitions}
@@ -78,3 +76,18 @@ one_searched op index m words n lists new word found inside is found_is pushed s
     let f : List ℕ → List DecoratedKey = λ w. keys_in op w index m in
     grown lists new (map f (drop n words)) (map f (drop (n + 1) words)) (map f words) found pushed
     (ap (map f) (item_next words n word inside is) ∙ ap (λ (l : List DecoratedKey). l ∷ map f (drop (n + 1) words)) (sym found_is)) so_far
+
+-- all are
+pub all_searched : (op : Op) (index : MemIndexView) (m : Partitions) (words : List (List ℕ)) (n : ℕ) (lists : List (List DecoratedKey)) → length words ≤ n → lists ++ map (λ w. keys_in op w index m) (drop n words) ≡ map (λ w. keys_in op w index m) words
+    → lists ≡ map (λ w. keys_in op w index m) words
+all_searched op index m words n lists end so_far = sym (append-nil lists) ∙ ap (λ l. lists ++ map (λ w. keys_in op w index m) l) (sym (drop_all n words end)) ∙ so_far
+
+-- one key more is looked for
+pub common_next : (test : DecoratedKey → Bool) (keys : List DecoratedKey) (n : ℕ) (key : DecoratedKey) (common new : List DecoratedKey) → n < length keys → key ≡ get_or keys n key → new ≡ common ++ (if test key then key ∷ [] else [])
+    → common ++ filter test (drop n keys) ≡ filter test keys → new ++ filter test (drop (n + 1) keys) ≡ filter test keys
+common_next test keys n key common new inside is kept so_far =
+    ap (λ l. l ++ filter test (drop (n + 1) keys)) kept ∙ append_assoc common (if test key then key ∷ [] else []) (filter test (drop (n + 1) keys)) ∙ ap (λ l. common ++ l) (by (test key)) ∙ ap (λ l. common ++ filter test l) (sym (item_next keys n key inside is)) ∙ so_far
+  where
+    by : (b : Bool) → (if b then key ∷ [] else []) ++ filter test (drop (n + 1) keys) ≡ cond b (key ∷ filter test (drop (n + 1) keys)) (filter test (drop (n + 1) keys))
+    by true = refl
+    by false = refl

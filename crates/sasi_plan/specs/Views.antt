@@ -1,5 +1,5 @@
 -- A view of a table: what its parts, and the relations of a WHERE, are in the layout.
-use Rattle.std.specs.Prelude.{◌≡◌, ℕ, ◌≤◌, List, [], ◌∷◌, length, map, Option, None, Some, refl}
+use Rattle.std.specs.Prelude.{◌≡◌, ℕ, ◌≤◌, List, [], ◌∷◌, length, map, Option, None, Some}
 use Rattle.std.specs.FinMap as map_
 use Rattle.std.specs.List.{zip}
 use Rattle.sasi_types.specs.declared.column.ColumnType.{ColumnType}
@@ -9,7 +9,7 @@ use Rattle.sasi_host.specs.Names.{Folder}
 use Rattle.sasi_manifest.specs.declared.files.PartNumber.{PartNumber}
 use Rattle.sasi_model.specs.Abbreviations.{Partitions, kind_of, types_of}
 use Rattle.sasi_model.specs.Indexes.{index_on}
-use Rattle.sasi_model.specs.State.{Definition, Index}
+use Rattle.sasi_model.specs.State.{Index}
 use Rattle.sasi_memindex.specs.declared.map_part.MapPart.{MapPart}
 use Rattle.sasi_memindex.specs.Book.{AreKept, Book, subjects}
 use Rattle.sasi_datawrite.specs.Format.{decorated_key}

@@ -1,5 +1,5 @@
 // The keys of a map that a relation finds.
-ghost use Rattle.std.specs.Prelude.{◌≡◌, ◌≤◌, length, map, IfOk};
+ghost use Rattle.std.specs.Prelude.{◌≡◌, ◌++◌, ◌∷◌, [], ◌≤◌, if◌then◌else◌, length, map, IfOk, OnOk};
 ghost use Rattle.std.specs.List.{AllByRecursion, filter, list_any};
 ghost use Rattle.std.specs.List.Sorted.{IsStrictlySortedBy};
 ghost use Rattle.std.specs.Ordering.{eq_by_cmp};
@@ -49,6 +49,23 @@ fn copy_key(alloc: Global, key: &DecoratedKey) -> Result<DecoratedKey, AllocErro
     }
 }
 
+// Adds a copy of the key, where it is in each of the lists.
+fn keep_common(
+    alloc: Global,
+    lists: &[KeyList],
+    key: &DecoratedKey,
+    common: &mut Vec<DecoratedKey>,
+) -> Result<(), AllocError>
+    requires { AllByRecursion (IsStrictlySortedBy decorated_cmp) lists.now }
+    ensures { OnOk result (common.new.items ≡ common.old.items ++ (if is_in_all lists.now key.now then key.now ∷ [] else [])) }
+{
+    if !is_in_all(lists, key) {
+        return Ok(());
+    }
+    common.push(copy_key(alloc, key)?)?;
+    Ok(())
+}
+
 // Copies of those of the keys that are in each of the lists.
 fn common_keys(
     alloc: Global,
@@ -60,9 +77,7 @@ fn common_keys(
 {
     let mut common = Vec::new(alloc);
     for key in keys {
-        if is_in_all(lists, key) {
-            common.push(copy_key(alloc, key)?)?;
-        }
+        keep_common(alloc, lists, key, &mut common)?;
     }
     Ok(common)
 }

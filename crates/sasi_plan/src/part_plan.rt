@@ -176,22 +176,22 @@ fn add_file(
 fn add_map(
     alloc: Global,
     relations: &[IndexedRelation],
-    map: &MapPart,
+    table_map: &MapPart,
     at: u64,
     streams: &mut Streams<Hits>,
 ) -> Result<MapPlan, AllocError>
     requires few { length relations.now < 2 ^ 32 }
     requires words { AllByRecursion HasWords relations.now }
-    requires has { AllByRecursion (HasIndexFor map.now) relations.now }
-    ensures found { IfOk result (λ plan. plan.found.items ≡ map (found_in map.now) relations.now) }
+    requires has { AllByRecursion (HasIndexFor table_map.now) relations.now }
+    ensures found { IfOk result (λ plan. plan.found.items ≡ map (found_in table_map.now) relations.now) }
     ensures positions { IfOk result (λ plan. plan.positions.items ≡ part_positions (length streams.old) (map (λ r. true) relations.now)) }
-    ensures adds { OnOk result (Adds (found_sources map.now at 0 relations.now) streams.old streams.new) }
+    ensures adds { OnOk result (Adds (found_sources table_map.now at 0 relations.now) streams.old streams.new) }
 {
     let mut found = Vec::with_capacity(alloc, relations.len())?;
     let mut positions = Vec::with_capacity(alloc, relations.len())?;
     for relation in relations {
         let leaf = found.len() as u32;
-        let keys = find_keys(alloc, map, relation)?;
+        let keys = find_keys(alloc, table_map, relation)?;
         let stream = map_stream(alloc, keys.as_slice(), leaf, at)?;
         positions.push(streams.len())?;
         streams.push(stream)?;

@@ -1,5 +1,5 @@
 -- The keys of a map that a relation finds.
-use Rattle.std.specs.Prelude.{◌≡◌, ℕ, ◌≤◌, Bool, nat_eq, List, [], length, map, Option, None, Some}
+use Rattle.std.specs.Prelude.{◌≡◌, ℕ, Bool, nat_eq, List, [], map, Option, None, Some}
 use Rattle.std.specs.FinMap as map_
 use Rattle.std.specs.List.{AllByRecursion, filter, list_all, list_any}
 use Rattle.std.specs.Map.{lookup}

@@ -1,9 +1,10 @@
-use Rattle.std.proofs.Common.{◌∙◌, ap}
+use Rattle.std.proofs.Common.{◌∙◌, List, ℕ, ap, length}
 use Rattle.sasi_plan.specs.HitLists.{columns_of}
 use Rattle.sasi_plan.proofs.Leaving.{streams_leave}
 use Rattle.sasi_plan.proofs.Opening.{streams_open, streams_ready, streams_show}
 use Rattle.sasi_plan.proofs.Paying.{streams_pay}
 use Rattle.sasi_plan.proofs.Places.{view_placed, view_served}
+use Rattle.sasi_plan.proofs.Served.{columns_long}
 use Rattle.sasi_plan.specs.inside.Sources.{all_sources}
 use Rattle.sasi_plan.proofs.plan.plan_streams.Goals as goal
 
@@ -11,7 +12,7 @@ pub returns-clause-leaves : goal.returns-clause-leaves
 returns-clause-leaves c folder p t asked seen is =
     record {
       leaves = streams_leave folder p t c.args.maps.now c.args.types.now c.args.relations.now c.args.parts.now asked seen _ is c.in_ok-made.ensures.streams;
-      serving_is = c.in_ok-relations.ensures ∙ ? ∙ view_served folder p t c.args.maps.now c.args.types.now c.args.relations.now c.args.parts.now asked seen is;
+      serving_is = c.in_ok-relations.ensures ∙ ap (λ (rows : List (List ℕ)). columns_of rows (length c.args.relations.now)) (c.deref.ensures.value ∙ c.in_ok-made.ensures.rows) ∙ view_served folder p t c.args.maps.now c.args.types.now c.args.relations.now c.args.parts.now asked seen is;
       hits_are = c.in_ok-made.ensures.parts ∙ view_placed folder p t c.args.maps.now c.args.types.now c.args.relations.now c.args.parts.now asked seen is;
     }
 
@@ -26,3 +27,6 @@ returns-clause-opens c name opens = streams_open c.args.maps.now c.args.types.no
 
 pub returns-clause-shows : goal.returns-clause-shows
 returns-clause-shows c files damage shows = streams_show c.args.maps.now c.args.types.now c.args.relations.now c.args.parts.now _ files damage c.in_ok-made.ensures.streams shows
+
+pub returns-clause-count : goal.returns-clause-count
+returns-clause-count c = ap (λ (l : List (List ℕ)). length l) c.in_ok-relations.ensures ∙ columns_long c.deref.result.now (length c.args.relations.now)
