@@ -20,7 +20,8 @@ impl Model for KeyList {
 }
 
 impl KeyList {
-    pub(crate) fn new(items: Vec<DecoratedKey>) -> KeyList
+    /// These keys, which are in order and each there once.
+    pub fn new(items: Vec<DecoratedKey>) -> KeyList
         ensures { result ≡ items.items }
     {
         KeyList { items }

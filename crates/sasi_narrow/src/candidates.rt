@@ -34,7 +34,7 @@ fn shared_keys<'a>(
     token: Token,
     relations: usize,
     parts: &'a [PartHits],
-    keys: &'a [Vec<PlacedKey>],
+    keys: &'a [&'a [PlacedKey]],
     entries: &[Entry],
 ) -> Result<Vec<&'a Key>, AllocError>
     requires some { 1 ≤ relations }
@@ -42,7 +42,7 @@ fn shared_keys<'a>(
     requires told { AllByRecursion (TellsOf relations (length keys.now)) parts.now }
     ensures rise { IfOk result (λ left. IsStrictlySortedBy ref_cmp left.items) }
     ensures are { AreInOrder entries.now parts.now
-        → IfOk result (λ left. AreKeys (is_left token (has_entry entries.now) (map (λ v. v.items) keys.now) parts.now relations)
+        → IfOk result (λ left. AreKeys (is_left token (has_entry entries.now) (map (λ v. v.now) keys.now) parts.now relations)
         left.items) }
 {
     let mut left = relation_keys(alloc, token, 0, parts, keys, entries)?;
@@ -83,7 +83,7 @@ pub fn candidate_keys(
     token: Token,
     relations: usize,
     parts: &[PartHits],
-    keys: &[Vec<PlacedKey>],
+    keys: &[&[PlacedKey]],
     entries: &[Entry],
 ) -> Result<Vec<Key>, AllocError>
     requires some { 1 ≤ relations }
@@ -91,7 +91,7 @@ pub fn candidate_keys(
     requires told { AllByRecursion (TellsOf relations (length keys.now)) parts.now }
     ensures sorted { IfOk result (λ left. IsStrictlySortedBy key_cmp left.items) }
     ensures are { AreInOrder entries.now parts.now
-        → IfOk result (λ left. AreThose (is_left token (has_entry entries.now) (map (λ v. v.items) keys.now) parts.now relations)
+        → IfOk result (λ left. AreThose (is_left token (has_entry entries.now) (map (λ v. v.now) keys.now) parts.now relations)
         left.items) }
 {
     let left = shared_keys(alloc, token, relations, parts, keys, entries)?;

@@ -19,18 +19,18 @@ fn add_hits<'a>(
     hits: &mut Vec<&'a Key>,
     hit: Entry,
     part: &'a PartHits,
-    keys: &'a [Vec<PlacedKey>],
+    keys: &'a [&'a [PlacedKey]],
     entries: &[Entry],
 ) -> Result<(), AllocError>
     requires { TellsOf (hit.leaf + 1) (length keys.now) part.now }
     ensures { Rises entries.now → FoundInOrder part.now
-        → OnOk result (AddsKeys (is_hit hit.token (has_entry entries.now) (map (λ v. v.items) keys.now) hit.leaf hit.part part.now)
+        → OnOk result (AddsKeys (is_hit hit.token (has_entry entries.now) (map (λ v. v.now) keys.now) hit.leaf hit.part part.now)
         hits.old.items hits.new.items) }
 {
     let leaf = hit.leaf as usize;
     match part {
         PartHits::File { file, indexed } => {
-            add_file_hits(hits, indexed[leaf], hit, &keys[*file], entries)
+            add_file_hits(hits, indexed[leaf], hit, keys[*file], entries)
         }
         PartHits::Map { found } => add_map_hits(hits, hit.token, found[leaf].as_slice()),
     }
@@ -42,12 +42,12 @@ fn all_hits<'a>(
     token: Token,
     leaf: u32,
     parts: &'a [PartHits],
-    keys: &'a [Vec<PlacedKey>],
+    keys: &'a [&'a [PlacedKey]],
     entries: &[Entry],
 ) -> Result<Vec<&'a Key>, AllocError>
     requires { AllByRecursion (TellsOf (leaf + 1) (length keys.now)) parts.now }
     ensures { AreInOrder entries.now parts.now
-        → IfOk result (λ hits. AreKeys (some_hit token (has_entry entries.now) (map (λ v. v.items) keys.now) parts.now leaf)
+        → IfOk result (λ hits. AreKeys (some_hit token (has_entry entries.now) (map (λ v. v.now) keys.now) parts.now leaf)
         hits.items) }
 {
     let mut hits = Vec::new(alloc);
@@ -69,13 +69,13 @@ pub fn relation_keys<'a>(
     token: Token,
     leaf: u32,
     parts: &'a [PartHits],
-    keys: &'a [Vec<PlacedKey>],
+    keys: &'a [&'a [PlacedKey]],
     entries: &[Entry],
 ) -> Result<Vec<&'a Key>, AllocError>
     requires { AllByRecursion (TellsOf (leaf + 1) (length keys.now)) parts.now }
     ensures rise { IfOk result (λ hits. IsStrictlySortedBy ref_cmp hits.items) }
     ensures are { AreInOrder entries.now parts.now
-        → IfOk result (λ hits. AreKeys (some_hit token (has_entry entries.now) (map (λ v. v.items) keys.now) parts.now leaf)
+        → IfOk result (λ hits. AreKeys (some_hit token (has_entry entries.now) (map (λ v. v.now) keys.now) parts.now leaf)
         hits.items) }
 {
     let mut hits = all_hits(alloc, token, leaf, parts, keys, entries)?;

@@ -26,6 +26,7 @@ fn check(
     let second = found_of(rt, alloc, found.0, found.1);
     let parts = parts_of(rt, alloc, indexed, first, second);
     let keys = keys_of_files(rt, alloc);
+    let keys = [keys[0].as_slice(), keys[1].as_slice()];
     let entries = entries_of(rt, alloc, hits);
     let left = candidate_keys(alloc, TOKEN, 2, &parts, &keys, &entries).expect(rt, "memory");
     assert!(rt;

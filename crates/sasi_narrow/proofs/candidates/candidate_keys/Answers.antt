@@ -12,6 +12,6 @@ returns-clause-sorted c =
 
 pub returns-clause-are : goal.returns-clause-are
 returns-clause-are c = λ order.
-    let keys : List (List PlacedKey) = map (λ v. v.items) c.args.keys.now in
+    let keys : List (List PlacedKey) = map (λ v. v.now) c.args.keys.now in
     copies_have c.copy_keys.result (λ v. v.items) c.deref.result.now (is_left c.args.token (has_entry c.args.entries.now) keys c.args.parts.now c.args.relations) c.copy_keys.ensures
     (λ bytes. ap (has_key bytes) c.deref.ensures.value ∙ c.in_ok-left.ensures.are order bytes)

@@ -11,7 +11,7 @@ pub loop-leaf-preserved : goal.loop-leaf-preserved
 loop-leaf-preserved c =
     let left = c.loop-leaf.left.items in
     let others = c.deref.result.now in
-    let keys : List (List PlacedKey) = map (λ v. v.items) c.args.keys.now in
+    let keys : List (List PlacedKey) = map (λ v. v.now) c.args.keys.now in
     record {
       rise = subst (λ (l : List Ref). IsStrictlySortedBy ref_cmp l) (sym c.keep_shared.ensures) (shared_rise others left c.loop-leaf.invariant.rise);
       are = λ order bytes.
