@@ -79,6 +79,8 @@ impl Walk {
         // A sequential scan reads each page once, also where it fails.
         ensures reads { ScansPagesOnce (H.view host.old) (H.view host.new) self.old self.new result }
         ensures opened { self.new.opened ≡ self.old.opened }
+        ensures pairs_named { self.new.pairs_buffered.file ≡ self.new.opened.file }
+        ensures named { self.new.buffered.file ≡ self.new.opened.file }
     {
         next_partition(
             alloc,

@@ -208,22 +208,24 @@ open_on : (v : View) (opened : OpenDataFile) (p : Partitioner) (content : Conten
 open_on v opened p content is = record { bytes = is.bytes; reads = is.reads; data_file = is.data_file; of = is.of }
 
 -- the scan can go on after reads
-pub scan_on : (v w : View) (old new : DataScan) → Changes Same v w → CanWalk v.files old → new.opened ≡ old.opened → IsBuffered new.pairs_buffered w.files → IsBuffered new.buffered w.files → CanWalk v.files new
-scan_on v w old new change can same pairs part = record {
+pub scan_on : (v w : View) (old new : DataScan) → Changes Same v w → CanWalk v.files old → new.opened ≡ old.opened → new.pairs_buffered.file ≡ new.opened.file → new.buffered.file ≡ new.opened.file → IsBuffered new.pairs_buffered w.files → IsBuffered new.buffered w.files → CanWalk v.files new
+scan_on v w old new change can same pairs_named named pairs part = record {
   there = subst (λ (o : OpenDataFile). IsSome v.files → IsSome (contents_in v.files o.file)) (sym same) can.there;
+  pairs_named = pairs_named;
+  named = named;
   pairs_buffered = subst (IsBuffered new.pairs_buffered) (reads_same v w change) pairs;
   buffered = subst (IsBuffered new.buffered) (reads_same v w change) part;
 }
 
-pub scan_steps : (v w : View) (old new : DataScan) (result : Result Head ReadFault) → Changes Same v w → CanWalk v.files old → new.opened ≡ old.opened → IsBuffered new.pairs_buffered w.files → IsBuffered new.buffered w.files
+pub scan_steps : (v w : View) (old new : DataScan) (result : Result Head ReadFault) → Changes Same v w → CanWalk v.files old → new.opened ≡ old.opened → new.pairs_buffered.file ≡ new.opened.file → new.buffered.file ≡ new.opened.file → IsBuffered new.pairs_buffered w.files → IsBuffered new.buffered w.files
     → IfOk result (λ found. ReadsNextPartition v old.opened old.passed new.passed found) → IfOk result (λ found. IfSome found (λ one. IsBodyOf old.opened.types one.1 one.2)) → IfOk result (λ head. StepsInFile v.files old head new)
-scan_steps v w old new (Ok head) change can same pairs part next in_table = record {
-  can = scan_on v w old new change can same pairs part;
+scan_steps v w old new (Ok head) change can same pairs_named named pairs part next in_table = record {
+  can = scan_on v w old new change can same pairs_named named pairs part;
   opened = same;
   in_table = in_table;
   next = λ p content is. next p content (open_on v old.opened p content is) is.keys;
 }
-scan_steps v w old new (Err f) change can same pairs part next in_table = tt
+scan_steps v w old new (Err f) change can same pairs_named named pairs part next in_table = tt
 
 pub no_false_scan : (v : View) (scan : DataScan) (result : Result Head ReadFault) → IfErr result (NoFalseOpenedDamage v scan.opened) → IfErr result (NoFalseSourceDamage v.files (File scan))
 no_false_scan v scan (Ok head) no_false = tt
@@ -257,6 +259,8 @@ opened_file v types file opened scan there named types_are opens footer is = sub
   nothing_buffered = refl;
   can = record {
     there = subst (λ (n : FileName). IsSome v.files → IsSome (contents_in v.files n)) (sym named) there;
+    pairs_named = refl;
+    named = refl;
     pairs_buffered = nothing_buffered _ v.files refl;
     buffered = nothing_buffered _ v.files refl;
   };

@@ -31,6 +31,8 @@ use Rattle.sasi_scan.specs.declared.source.Source.TheVariants.{File, Map}
 -- the file of a scan is there, and its buffered pages are those of the file
 pub record CanWalk (seen : Option Folder) (scan : DataScan) : Type 0 where
   pub there : IsSome seen → IsSome (contents_in seen scan.opened.file)
+  pub pairs_named : scan.pairs_buffered.file ≡ scan.opened.file
+  pub named : scan.buffered.file ≡ scan.opened.file
   pub pairs_buffered : IsBuffered scan.pairs_buffered seen
   pub buffered : IsBuffered scan.buffered seen
 

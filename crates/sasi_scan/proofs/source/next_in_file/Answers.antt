@@ -8,7 +8,7 @@ next-requires-clause-read g c = record { there = c.requires.there; agrees = tt }
 pub returns-clause-steps : goal.returns-clause-steps
 returns-clause-steps g c =
     let view = g.H.Host.view in
-    scan_steps (view c.args.host.now) (view c.next.new.host) c.args.scan.now c.next.new.self c.next.result c.next.ensures.read.changes c.requires c.next.ensures.opened
+    scan_steps (view c.args.host.now) (view c.next.new.host) c.args.scan.now c.next.new.self c.next.result c.next.ensures.read.changes c.requires c.next.ensures.opened c.next.ensures.pairs_named c.next.ensures.named
     c.next.ensures.pairs_buffered c.next.ensures.buffered c.next.ensures.ok c.next.ensures.in_table
 
 pub returns-clause-damaged : goal.returns-clause-damaged
