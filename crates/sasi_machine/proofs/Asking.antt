@@ -39,6 +39,7 @@ record AllPass (d : Definition) (rs : List Relation) : Type 0 where
   ranged : first_refusal (map (λ r. number_range d r.column r.value) rs) ≡ None
   some : first_refusal (map (λ r. key_empty d r.column r.value) rs) ≡ None
   short : first_refusal (map (λ r. value_too_long d r.column r.value) rs) ≡ None
+  takes : first_refusal (map (operator_unsupported d) rs) ≡ None
   asks : first_refusal (map (like_empty d) rs) ≡ None
 
 all_pass : (d : Definition) (rs : List Relation) → first_refusal (relation_rules operand_rules d rs) ≡ None → first_refusal (relation_rules search_rules d rs) ≡ None → AllPass d rs
@@ -50,7 +51,7 @@ all_pass d rs operands searches =
     let five = none_parts (map (λ r. value_too_long d r.column r.value) rs) _ four.1 in
     let six = none_parts (map (operator_unsupported d) rs) _ five.1 in
     let seven = none_parts (map (like_empty d) rs) _ six.1 in
-    record { column = one.0; typed = two.0; ranged = three.0; some = four.0; short = five.0; asks = seven.0 }
+    record { column = one.0; typed = two.0; ranged = three.0; some = four.0; short = five.0; takes = six.0; asks = seven.0 }
 
 each_can : (d : Definition) (rs : List Relation) → AllByRecursion IsWellFormedRelation rs → AllPass d rs → AllByRecursion (CanAsk d) rs
 each_can d [] written pass = tt
@@ -60,9 +61,10 @@ each_can d (r ∷ rs) written pass =
     let ranged = passes (λ r. number_range d r.column r.value) r rs pass.ranged in
     let some = passes (λ r. key_empty d r.column r.value) r rs pass.some in
     let short = passes (λ r. value_too_long d r.column r.value) r rs pass.short in
+    let takes = passes (operator_unsupported d) r rs pass.takes in
     let asks = passes (like_empty d) r rs pass.asks in (
-      record { written = written.0; column = column.0; typed = typed.0; ranged = ranged.0; some = some.0; short = short.0; asks = asks.0 },
-      each_can d rs written.1 (record { column = column.1; typed = typed.1; ranged = ranged.1; some = some.1; short = short.1; asks = asks.1 }),
+      record { written = written.0; column = column.0; typed = typed.0; ranged = ranged.0; some = some.0; short = short.0; takes = takes.0; asks = asks.0 },
+      each_can d rs written.1 (record { column = column.1; typed = typed.1; ranged = ranged.1; some = some.1; short = short.1; takes = takes.1; asks = asks.1 }),
     )
 
 module _ (d : Definition) (select : Select) (can : CanSelect d select) where

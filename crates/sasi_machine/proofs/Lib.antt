@@ -23,7 +23,6 @@ pub mod CellCounts
 pub mod ChangeBodies
 pub mod KeyBytes
 pub mod TableColumns
-pub mod RowPrints
 pub mod StatementBodies
 pub mod TablesOfMemtables
 pub mod NumberedTables

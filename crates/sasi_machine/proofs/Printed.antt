@@ -118,3 +118,9 @@ none_counted kind columns f entry out = rw out refl
 -- another has one
 pub one_counted : (kind : ColumnType) (columns : List PickedColumn) (f : Filter) (entry : DecoratedKey × Partition) → answers f entry ≡ true → 1 ≡ length (rows_picked kind columns f (entry ∷ []))
 one_counted kind columns f entry taken = rw taken refl
+
+-- which is printed as the line of its values
+pub row_printed : (kind : ColumnType) (columns : List PickedColumn) (f : Filter) (entry : DecoratedKey × Partition) (before after : List ℕ) → answers f entry ≡ true
+    → after ≡ before ++ row_line (map (picked_value kind entry.0.key entry.1) columns) → after ≡ before ++ flat_map row_line (rows_picked kind columns f (entry ∷ []))
+row_printed kind columns f entry before after taken printed =
+    rw taken (printed ∙ ap (λ (l : List ℕ). before ++ l) (sym (append-nil (row_line (map (picked_value kind entry.0.key entry.1) columns)))))

@@ -10,7 +10,7 @@ use Rattle.sasi_types.specs.declared.relation.Test.TheVariants.{Like}
 use Rattle.sasi_types.specs.declared.rule.Rule.{Rule}
 use Rattle.sasi_types.specs.declared.statement.Select.{Select}
 use Rattle.sasi_model.specs.Abbreviations.{first_refusal}
-use Rattle.sasi_model.specs.Refusals.{is_null, is_of, is_out_of_range, key_empty, like_empty, no_column, number_range, select_rules, value_too_long, wrong_where}
+use Rattle.sasi_model.specs.Refusals.{is_null, is_of, is_out_of_range, key_empty, like_empty, no_column, number_range, operator_unsupported, select_rules, value_too_long, wrong_where}
 use Rattle.sasi_model.specs.Relations.{asks_nothing}
 use Rattle.sasi_model.specs.State.{Definition}
 use Rattle.sasi_model.specs.WellFormed.{IsWellFormedRelation, IsWellFormedSelect}
@@ -28,6 +28,7 @@ pub record CanAsk (d : Definition) (r : Relation) : Type 0 where
   pub ranged : (number_range d r.column r.value).0 ≡ false
   pub some : (key_empty d r.column r.value).0 ≡ false
   pub short : (value_too_long d r.column r.value).0 ≡ false
+  pub takes : (operator_unsupported d r).0 ≡ false
   pub asks : (like_empty d r).0 ≡ false
 
 -- the literal is a value of the type

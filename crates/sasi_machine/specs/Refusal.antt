@@ -1,5 +1,7 @@
--- Refusals, as the model's.
+-- Refusals, as the model's, and what their lines are made of.
+use Rattle.std.specs.Prelude.{ℕ, List, [], ◌∷◌, codes, Option, None, Some}
 use Rattle.sasi_schema.specs.Faults.{limit_refusal}
+use Rattle.sasi_schema.specs.declared.fault.Limit.TheVariants.{Tables, Columns}
 use Rattle.sasi_model.specs.Refusals as rules
 use Rattle.sasi_model.specs.Abbreviations as model
 use Rattle.sasi_machine.specs.declared.refusal.Refusal.{Refusal}
@@ -33,3 +35,38 @@ refusal_of (TooMany limit) = limit_refusal limit
 refusal_of TooManyRelations = model.TooManyRelations
 refusal_of ScriptEnds = model.ScriptEnds
 refusal_of NotBuilt = model.NotBuilt
+
+-- ---- what stands after the name of a refusal, where it isn't an offset
+
+-- an option that is an empty text isn't shown
+abbrev pub option_shown : List ℕ → Option (List ℕ)
+option_shown [] = None
+option_shown (b ∷ bs) = Some (b ∷ bs)
+
+-- the name or the option that it is about
+abbrev pub name_in : Refusal → Option (List ℕ)
+name_in (NoTable name) = Some name
+name_in (TableExists name) = Some name
+name_in (NoColumn name) = Some name
+name_in (ColumnRepeated name) = Some name
+name_in (WrongType name) = Some name
+name_in (NumberRange name) = Some name
+name_in (KeyMissing name) = Some name
+name_in (KeyEmpty name) = Some name
+name_in (ValueTooLong name) = Some name
+name_in (IndexExists name) = Some name
+name_in (ModeType name) = Some name
+name_in (OperatorUnsupported name) = Some name
+name_in (LikeEmpty name) = Some name
+name_in (BadOption option) = option_shown option
+name_in refusal = None
+
+-- words that are always the same, or none
+abbrev pub words_in : Refusal → List ℕ
+words_in StatementTooLong = codes "1048576"
+words_in LimitRange = codes "LIMIT"
+words_in BadUsing = codes "using"
+words_in (TooMany Tables) = codes "tables 256"
+words_in (TooMany Columns) = codes "columns 64"
+words_in TooManyRelations = codes "relations 32"
+words_in refusal = []

@@ -8,6 +8,7 @@ use crate::Reply;
 use crate::fault::Fault;
 use crate::prepared::Prepared;
 use crate::reply_refusal::reply_fault;
+use sasi_print::ok;
 use sasi_schema::Schema;
 use sasi_types::{Name, Options, Text};
 use std::alloc::AllocError;
@@ -26,7 +27,7 @@ pub fn prepare_index(
 {
     match schema.prepare_index(name, table, column, class, options) {
         Ok(new) => {
-            reply.ok()?;
+            ok(reply)?;
             Ok(Prepared::Define(new))
         }
         Err(fault) => {

@@ -1,6 +1,6 @@
 //! Prepares pieces: parses one, refuses it or tells what it asks, and prints its reply. `RowQuery` is what a SELECT asks of the rows
-//! of a table, and `Machine` applies all that to tables in memory alone. It stands on sasi_cql, sasi_schema, sasi_memtable and
-//! sasi_analyzers, and promises the state, the reply and the refusal of the model's step.
+//! of a table, and `Machine` applies all that to tables in memory alone. It stands on sasi_cql, sasi_schema, sasi_memtable,
+//! sasi_analyzers and sasi_print, and promises the state, the reply and the refusal of the model's step.
 #![tactic(auto)]
 
 mod assign;
@@ -25,14 +25,12 @@ mod outcome;
 mod picking;
 mod prepared;
 mod preparing;
-pub mod print;
 mod read;
 mod refusal;
 mod relation;
 mod relation_rule;
 mod reply_refusal;
 mod row_filter;
-mod row_print;
 mod row_query;
 mod search;
 mod select;
@@ -42,11 +40,13 @@ mod table_rows;
 mod terms;
 mod time;
 
+pub use condition::{Comparison, Condition};
 pub use machine::Machine;
 pub use outcome::Outcome;
 pub use prepared::{Prepared, Selection};
 pub use preparing::prepare;
-pub use print::Reply;
 pub use refusal::Refusal;
 pub use row_filter::RowFilter;
 pub use row_query::RowQuery;
+pub use sasi_print::Reply;
+pub use search::Search;

@@ -22,6 +22,7 @@ use crate::select::prepare_select;
 use crate::statement_mutation::statement_mutation;
 use crate::{Outcome, Refusal, Reply};
 use sasi_analyzers::Kit;
+use sasi_print::ok;
 use sasi_schema::Schema;
 use sasi_types::{Columns, DeclaredColumns, KitFault, Name, Names, PieceEnd, Statement};
 use std::alloc::{AllocError, Global};
@@ -150,7 +151,7 @@ fn prepare_definition(
 {
     match schema.prepare_table(table, columns, keys) {
         Ok(table) => {
-            reply.ok()?;
+            ok(reply)?;
             Ok(Prepared::Create(table))
         }
         Err(fault) => {
@@ -165,7 +166,7 @@ fn prepare_flush(schema: &Schema, table: Name, reply: &mut Reply) -> Result<Prep
 {
     match schema.table(&table) {
         Some(table) => {
-            reply.ok()?;
+            ok(reply)?;
             Ok(Prepared::Flush(table.number))
         }
         None => {
@@ -188,7 +189,7 @@ fn prepare_mutation(
 {
     match statement_mutation(builder, schema, statement) {
         Ok(mutation) => {
-            reply.ok()?;
+            ok(reply)?;
             Ok(Prepared::Write(mutation))
         }
         Err(fault) => {

@@ -1,6 +1,7 @@
 // Why pieces are refused.
-ghost use Rattle.std.specs.Prelude.{◌≡◌};
+ghost use Rattle.std.specs.Prelude.{◌≡◌, None, Some, IfNone, IfSome};
 ghost use Rattle.sasi_model.specs.Abbreviations.{refusal_number};
+ghost use Rattle.sasi_machine.specs.Refusal.{name_in, option_shown, refusal_of, words_in};
 
 use sasi_schema::Limit;
 use sasi_types::{Name, Text};
@@ -47,8 +48,6 @@ pub enum Refusal {
 }
 
 impl Refusal {
-    ghost use Rattle.sasi_machine.specs.Refusal.{refusal_of};
-
     /// The number in its line.
     pub fn number(&self) -> u32
         ensures { result ≡ refusal_number (refusal_of self.now) }
@@ -78,5 +77,66 @@ impl Refusal {
             Refusal::ScriptEnds => 25,
             Refusal::NotBuilt => 90,
         }
+    }
+
+    /// The name that its line ends with, or the option.
+    pub(crate) fn name(&self) -> Option<&[u8]>
+        ensures some { IfSome result (λ name. name_in self.now ≡ Some name.now) }
+        ensures none { IfNone result (name_in self.now ≡ None) }
+    {
+        match self {
+            Refusal::NoTable(name)
+            | Refusal::TableExists(name)
+            | Refusal::NoColumn(name)
+            | Refusal::ColumnRepeated(name)
+            | Refusal::WrongType(name)
+            | Refusal::NumberRange(name)
+            | Refusal::KeyMissing(name)
+            | Refusal::KeyEmpty(name)
+            | Refusal::ValueTooLong(name)
+            | Refusal::IndexExists(name)
+            | Refusal::ModeType(name)
+            | Refusal::OperatorUnsupported(name)
+            | Refusal::LikeEmpty(name) => Some(name.bytes()),
+            Refusal::BadOption(option) => shown(option.bytes()),
+            Refusal::Syntax(_)
+            | Refusal::NotUtf8(_)
+            | Refusal::StatementTooLong
+            | Refusal::LimitRange
+            | Refusal::BadUsing
+            | Refusal::NeedsFiltering
+            | Refusal::TimestampRange
+            | Refusal::ClockSpent
+            | Refusal::TooMany(_)
+            | Refusal::TooManyRelations
+            | Refusal::ScriptEnds
+            | Refusal::NotBuilt => None,
+        }
+    }
+
+    /// The words that its line ends with, where it is always the same; else none.
+    pub(crate) fn words(&self) -> &'static str
+        ensures { result.now ≡ words_in self.now }
+    {
+        match self {
+            Refusal::StatementTooLong => "1048576",
+            Refusal::LimitRange => "LIMIT",
+            Refusal::BadUsing => "using",
+            Refusal::TooMany(Limit::Tables) => "tables 256",
+            Refusal::TooMany(Limit::Columns) => "columns 64",
+            Refusal::TooManyRelations => "relations 32",
+            _ => "",
+        }
+    }
+}
+
+// An option that is an empty text isn't shown.
+fn shown(option: &[u8]) -> Option<&[u8]>
+    ensures some { IfSome result (λ shown. option_shown option.now ≡ Some shown.now) }
+    ensures none { IfNone result (option_shown option.now ≡ None) }
+{
+    match option {
+        [] => None,
+        option => Some(option),
     }
 }

@@ -8,6 +8,7 @@ ghost use Rattle.sasi_machine.specs.StatementSteps.{IsRefused};
 
 use crate::fault::Fault;
 use crate::{Outcome, Refusal, Reply};
+use sasi_print::{refusal_about, refusal_at};
 use std::alloc::AllocError;
 
 /// Replies with a refusal.
@@ -22,8 +23,24 @@ fn refused(reply: &mut Reply, refusal: &Refusal) -> Result<Outcome, AllocError>
     ensures reply { OnOk result (reply.new ≡ reply.old ++ refusal_line (refusal_of refusal.now)) }
     ensures outcome { IfOk result (λ outcome. outcome ≡ outcome_of (Some (refusal_of refusal.now))) }
 {
-    reply.refusal(refusal)?;
+    print_refusal(reply, refusal)?;
     Ok(Outcome::Refused(refusal.number()))
+}
+
+// Adds the line of a refusal.
+fn print_refusal(reply: &mut Reply, refusal: &Refusal) -> Result<(), AllocError>
+    ensures ok { OnOk result (reply.new ≡ reply.old ++ refusal_line (refusal_of refusal.now)) }
+{
+    if let Refusal::Syntax(offset) = refusal {
+        return refusal_at(reply, refusal.number(), *offset);
+    }
+    if let Refusal::NotUtf8(offset) = refusal {
+        return refusal_at(reply, refusal.number(), *offset);
+    }
+    match refusal.name() {
+        Some(name) => refusal_about(reply, refusal.number(), name),
+        None => sasi_print::refusal(reply, refusal.number(), refusal.words()),
+    }
 }
 
 /// Replies with the refusal of a fault; out of memory is handed on.

@@ -41,6 +41,13 @@ impl RowFilter {
         RowFilter { alloc, conditions }
     }
 
+    /// The conditions, in the order of the relations.
+    pub fn conditions(&self) -> &[Condition]
+        ensures { map model_condition result.now ≡ self.now }
+    {
+        &self.conditions
+    }
+
     /// Whether the partition of a key is as the WHERE asks.
     pub fn accepts(&self, key: &Key, part: &Partition, kit: &mut Kit) -> Result<bool, KitFault>
         requires { HasTexts part.now }

@@ -23,6 +23,7 @@ use crate::picking::picked;
 use crate::{Reply, RowFilter};
 use sasi_analyzers::Kit;
 use sasi_cells::{Partition, Picked};
+use sasi_print::picked_row;
 use sasi_schema::Table;
 use sasi_types::{Key, KitFault, Select};
 use std::alloc::Global;
@@ -98,7 +99,7 @@ impl RowQuery {
         if !self.answers(key, part, kit)? {
             return Ok(0);
         }
-        reply.picked_row(alloc, key, part, &self.picked)?;
+        picked_row(alloc, reply, key, part, &self.picked)?;
         Ok(1)
     }
 

@@ -10,6 +10,7 @@ ghost use Rattle.sasi_machine.specs.Where.{where_of};
 use crate::{Reply, RowQuery};
 use sasi_analyzers::Kit;
 use sasi_memtable::Memtable;
+use sasi_print::count;
 use sasi_types::KitFault;
 use std::alloc::Global;
 
@@ -28,7 +29,7 @@ pub fn print_rows(
     ensures kinds { map_list (λ b. kind (b.vtable, b.value)) kit.new.objects.items ≡ map_list (λ b. kind (b.vtable, b.value)) kit.old.objects.items }
 {
     let rows = print_first(alloc, memtable, query, kit, reply)?;
-    reply.count(rows)?;
+    count(reply, rows)?;
     Ok(())
 }
 

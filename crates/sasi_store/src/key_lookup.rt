@@ -30,6 +30,7 @@ use sasi_host::{Host, ReadFault};
 use sasi_machine::{Reply, RowQuery};
 use sasi_manifest::ListedFile;
 use sasi_memtable::{Memtable, decorated};
+use sasi_print::count;
 use sasi_scan::find_key;
 use sasi_types::{DecoratedKey, Key, Partitioner, TypeList};
 use std::alloc::{AllocError, Global};
@@ -68,7 +69,7 @@ pub fn print_key<H: Host>(
 {
     let found = find_in_table(alloc, host, files, types, maps, partitioner, key)?;
     let rows = print_found(alloc, kit, key, &found, query, reply)?;
-    reply.count(rows)?;
+    count(reply, rows)?;
     Ok(())
 }
 

@@ -30,6 +30,7 @@ use sasi_host::{Host, ReadFault};
 use sasi_machine::{Reply, RowQuery};
 use sasi_manifest::ListedFile;
 use sasi_memtable::Memtable;
+use sasi_print::count;
 use sasi_scan::TableScan;
 use sasi_types::{Key, KitFault, TypeList};
 use std::alloc::{AllocError, Global};
@@ -64,7 +65,7 @@ pub fn print_table<H: Host>(
 {
     let mut scan = TableScan::open(alloc, host, files, types, maps)?;
     let rows = print_scan(alloc, host, kit, maps, &mut scan, query, reply)?;
-    reply.count(rows)?;
+    count(reply, rows)?;
     Ok(())
 }
 

@@ -10,7 +10,7 @@ use Rattle.sasi_machine.proofs.index.prepare_index.Goals as goal
 
 pub returns-in_ok-ok-in-Ok : goal.returns-in_ok-ok-in-Ok
 returns-in_ok-ok-in-Ok c stepped max_time =
-    index_asks (known_by c.args.schema.now max_time) (option_copied c.args.name) c.args.table.now c.args.column.now c.args.class.now c.args.options.now stepped c.in-Ok.new c.args.reply.now c.ok.new.self
+    index_asks (known_by c.args.schema.now max_time) (option_copied c.args.name) c.args.table.now c.args.column.now c.args.class.now c.args.options.now stepped c.in-Ok.new c.args.reply.now c.ok.new.reply
     c.in-Ok.ensures.answers c.in-Ok.ensures.made c.in_ok-ok-in-Ok.ensures.ok
 
 pub returns-in_ok-outcome-in-Err : goal.returns-in_ok-outcome-in-Err

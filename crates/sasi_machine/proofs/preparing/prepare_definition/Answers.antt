@@ -9,7 +9,7 @@ use Rattle.sasi_machine.proofs.preparing.prepare_definition.Goals as goal
 
 pub returns-in_ok-ok-in-Ok : goal.returns-in_ok-ok-in-Ok
 returns-in_ok-ok-in-Ok c max_time =
-    create_asks (known_by c.args.schema.now max_time) c.args.table.now c.args.columns.now c.args.keys.now c.in-Ok.table c.args.reply.now c.ok.new.self c.in-Ok.ensures.answers c.in-Ok.ensures.made c.in-Ok.ensures.number c.in_ok-ok-in-Ok.ensures.ok
+    create_asks (known_by c.args.schema.now max_time) c.args.table.now c.args.columns.now c.args.keys.now c.in-Ok.table c.args.reply.now c.ok.new.reply c.in-Ok.ensures.answers c.in-Ok.ensures.made c.in-Ok.ensures.number c.in_ok-ok-in-Ok.ensures.ok
 
 pub returns-in_ok-outcome-in-Err : goal.returns-in_ok-outcome-in-Err
 returns-in_ok-outcome-in-Err c max_time =

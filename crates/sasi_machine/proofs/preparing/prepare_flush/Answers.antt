@@ -6,7 +6,7 @@ use Rattle.sasi_machine.proofs.preparing.prepare_flush.Goals as goal
 
 pub returns-in_ok-ok-in-Some : goal.returns-in_ok-ok-in-Some
 returns-in_ok-ok-in-Some c max_time =
-    flush_asks (known_by c.args.schema.now max_time) c.args.table c.in-Some.table.now.number (definition c.in-Some.table.now) c.args.reply.now c.ok.new.self (sym c.in-Some.ensures.number) (sym c.in-Some.ensures.definition) c.in_ok-ok-in-Some.ensures.ok
+    flush_asks (known_by c.args.schema.now max_time) c.args.table c.in-Some.table.now.number (definition c.in-Some.table.now) c.args.reply.now c.ok.new.reply (sym c.in-Some.ensures.number) (sym c.in-Some.ensures.definition) c.in_ok-ok-in-Some.ensures.ok
 
 pub returns-in_ok-outcome-in-None : goal.returns-in_ok-outcome-in-None
 returns-in_ok-outcome-in-None c max_time =

@@ -28,7 +28,7 @@ pub returns-clause-ok : goal.returns-clause-ok
 returns-clause-ok g c folder t told is =
     let v = g.H.Host.view c.args.host.now in
     let p = c.args.partitioner in
-    key_answer c.args.query.now p c.args.key.now c.in_ok-found.found (table_of t).partitions c.args.reply.now c.print_found.new.reply c.count.new.self c.in_ok-rows.rows c.requires.asked
+    key_answer c.args.query.now p c.args.key.now c.in_ok-found.found (table_of t).partitions c.args.reply.now c.print_found.new.reply c.count.new.reply c.in_ok-rows.rows c.requires.asked
     (table_decorated v.files folder p c.args.types.now c.args.files.now c.args.maps.now t told is c.requires.decorated) (c.in_ok-found.ensures.found folder t told is) (c.in_ok-rows.ensures.printed (token_of p c.args.key.now)) c.in_ok-count.ensures.ok
 
 pub returns-clause-causes : goal.returns-clause-causes

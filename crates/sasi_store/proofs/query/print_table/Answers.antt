@@ -117,7 +117,7 @@ returns-clause-ok g c folder partitioner t told is =
     let contents = file_contents t in
     let left = map_.entries (merged_parts partitioner contents c.args.maps.now) in
     let have = table_contents v.files folder partitioner c.args.types.now c.args.files.now c.args.maps.now t told is in
-    answer_is (asked_rows c.args.query.now left) c.args.reply.now c.print_scan.new.reply c.count.new.self c.in_ok-rows.rows
+    answer_is (asked_rows c.args.query.now left) c.args.reply.now c.print_scan.new.reply c.count.new.reply c.in_ok-rows.rows
     (c.in_ok-rows.ensures.ok partitioner left (subst (λ (o : Option Folder). IsScanning o partitioner c.args.maps.now c.in_ok-scan.scan left) (sym (reads_same v (view c.open.new.host) c.open.ensures.changes)) (c.in_ok-scan.ensures.opened partitioner contents have)))
     c.in_ok-count.ensures.ok
     ∙ ap (λ (m : Partitions). c.args.reply.now ++ rows_lines (asked_rows c.args.query.now (map_.entries m))) (table_merged v.files folder partitioner c.args.types.now c.args.files.now c.args.maps.now t told is)

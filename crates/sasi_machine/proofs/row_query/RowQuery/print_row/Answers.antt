@@ -2,8 +2,7 @@ use Rattle.std.proofs.Common.{sym, ◌∙◌}
 use Rattle.sasi_types.specs.declared.decorated_key.DecoratedKey.{DecoratedKey}
 use Rattle.sasi_model.specs.Cells.{Partition}
 use Rattle.sasi_machine.specs.Where.{where_of}
-use Rattle.sasi_machine.proofs.Printed.{none_counted, none_printed, one_counted}
-use Rattle.sasi_machine.proofs.RowPrints.{row_printed}
+use Rattle.sasi_machine.proofs.Printed.{none_counted, none_printed, one_counted, row_printed}
 use Rattle.sasi_machine.proofs.row_query.RowQuery.print_row.Goals as goal
 
 pub returns-then-not-branch-clause-reply : goal.returns-then-not-branch-clause-reply

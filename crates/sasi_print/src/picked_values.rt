@@ -8,12 +8,12 @@ ghost use Rattle.sasi_model.specs.Cells.{value_at};
 ghost use Rattle.sasi_model.specs.Lines.{printed, value_printed};
 ghost use Rattle.sasi_model.specs.Values.{value_stored};
 
-use crate::print::{push_number, push_text, push_uuid};
+use crate::values::{push_live, push_text};
 use sasi_cells::{Partition, Picked, PickedColumn, decode_value};
 use sasi_types::{ColumnType, Key, Value};
 use std::alloc::{AllocError, Global};
 
-/// Adds the values of a row that are picked, with ` | ` between them.
+// Adds the values of a row that are picked, with ` | ` between them.
 pub(crate) fn push_picked(
     alloc: Global,
     reply: &mut Vec<u8>,
@@ -104,18 +104,6 @@ fn value_of(part: &Partition, column: u16) -> Option<&Value>
     match part.cell(column) {
         None => None,
         Some(cell) => cell.value(),
-    }
-}
-
-/// Adds a value.
-pub(crate) fn push_live(reply: &mut Vec<u8>, value: &Value) -> Result<(), AllocError>
-    ensures ok { OnOk result (reply.new.items ≡ reply.old.items ++ value_printed value.now) }
-{
-    match value {
-        Value::Text(text) => push_text(reply, text.bytes()),
-        Value::Int(number) => push_number(reply, *number),
-        Value::BigInt(number) => push_number(reply, *number),
-        Value::Uuid(bytes) => push_uuid(reply, *bytes),
     }
 }
 

@@ -1,23 +1,13 @@
--- A row that is printed from the cells of a partition.
+-- What is printed of texts and of the values of a row.
 use Rattle.std.proofs.Common.{◌≡◌, ◌==◌, ◌||◌, ◌≤◌, ◌-◌, ℕ, length, take, drop, get_or, arith, Bool, true, false, cond, List, [], ◌∷◌, ◌++◌, map, codes, Option, Result, Ok, Err, OnOk, is_ok, if◌then◌else◌, refl, sym, ap, ◌∙◌, append_assoc}
 use Rattle.std.specs.List.{flat_map, list_any}
 use Rattle.std.proofs.lemmas.List.{append-nil, take_all}
 use Rattle.sasi_types.specs.declared.column.ColumnType.{ColumnType}
-use Rattle.sasi_types.specs.declared.decorated_key.DecoratedKey.{DecoratedKey}
 use Rattle.sasi_cells.specs.declared.picked.PickedColumn.{PickedColumn}
 use Rattle.sasi_cells.specs.Rows.{picked_value}
-use Rattle.sasi_model.specs.Cells.{Partition}
-use Rattle.sasi_model.specs.Filters.{Filter, answers}
 use Rattle.sasi_types.specs.declared.value.Value.{Value}
 use Rattle.sasi_model.specs.Abbreviations.{printed_byte, row_line, row_text}
 use Rattle.sasi_model.specs.Lines.{printed}
-use Rattle.sasi_machine.specs.TableRows.{rows_picked}
-
--- the line of its values is that of the row
-pub row_printed : (kind : ColumnType) (columns : List PickedColumn) (f : Filter) (entry : DecoratedKey × Partition) (before after : List ℕ) → answers f entry ≡ true
-    → after ≡ before ++ row_line (map (picked_value kind entry.0.key entry.1) columns) → after ≡ before ++ flat_map row_line (rows_picked kind columns f (entry ∷ []))
-row_printed kind columns f entry before after taken printed =
-    rw taken (printed ∙ ap (λ (l : List ℕ). before ++ l) (sym (append-nil (row_line (map (picked_value kind entry.0.key entry.1) columns)))))
 
 -- a text without quotes is printed as it is
 pub plain : (text : List ℕ) → list_any (λ b. b == 39) text ≡ false → flat_map printed_byte text ≡ text

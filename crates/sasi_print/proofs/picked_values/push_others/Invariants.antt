@@ -2,7 +2,7 @@ use Rattle.std.proofs.Common.{◌≡◌, ◌++◌, take, codes}
 use Rattle.std.specs.List.{flat_map}
 use Rattle.sasi_cells.specs.Rows.{picked_value}
 use Rattle.sasi_model.specs.Lines.{printed}
-use Rattle.sasi_machine.proofs.row_print.push_others.Given as goal
+use Rattle.sasi_print.proofs.picked_values.push_others.Given as goal
 
 -- the values so far are printed
 abbrev pub invariant-loop-column : goal.invariant-loop-column

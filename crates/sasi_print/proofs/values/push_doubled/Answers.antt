@@ -1,6 +1,6 @@
 use Rattle.std.proofs.Common.{sym, ◌∙◌}
-use Rattle.sasi_machine.proofs.RowPrints.{plain_added}
-use Rattle.sasi_machine.proofs.print.push_doubled.Goals as goal
+use Rattle.sasi_print.proofs.RowPrints.{plain_added}
+use Rattle.sasi_print.proofs.values.push_doubled.Goals as goal
 
 pub returns-then-not-contains : goal.returns-then-not-contains
 returns-then-not-contains c =
