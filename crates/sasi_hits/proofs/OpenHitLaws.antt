@@ -205,13 +205,3 @@ opening_hit_faults v w file op words n r change causes damaged undamaged =
     (on_err (ShowsIn file (ShowsHeaderOrFooter file) v.files) (HitsShow file v.files) r (λ damage shows bytes reads. outside (shows bytes reads)) damaged)
     (on_err (λ _. (bytes : Bytes) (content : IndexContent) → contents v file ≡ Some bytes → IsIndexFile bytes content → ⊥) (λ _. (left : List Pair) → (floor : ℕ) × HitsLeave file op words floor None v.files left → ⊥) r
     (λ damage no left is. no is.1.0 is.1.1 is.1.2.reads is.1.2.index_file) undamaged)
-
--- there was no memory for the searches
-pub faults_memory : {R T L M : Type 0} (Shown Shows : Damage → Type 0) (Leaves : L → Type 0) (Other : M → Type 0) (u v : View) (x : R) → StreamFaults Shown Shows Leaves u v (Ok x)
-    → StreamFaults {T = T} Shown Shows Other u v (Err fault.OutOfMemory)
-faults_memory Shown Shows Leaves Other u v x one = record {
-  causes = record { disk = one.causes.disk; out = one.causes.out; reads = one.causes.reads; ok = tt; failed = λ is. cc; memory = λ is. one.causes.ok; damaged = λ damage is. cc };
-  damaged = tt;
-  undamaged = tt;
-  shows = one.shows;
-}

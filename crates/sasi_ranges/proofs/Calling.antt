@@ -127,6 +127,16 @@ faults_as Shown Shows Fewer Leaves Other u v r fewer goes one = record {
   shows = λ damage is. one.shows damage (fewer damage is);
 }
 
+-- a call that lacks memory, behind reads that didn't fail
+pub faults_memory : {R T L M : Type 0} (Shown Shows : Damage → Type 0) (Leaves : L → Type 0) (Other : M → Type 0) (u v : View) (x : R) → StreamFaults Shown Shows Leaves u v (Ok x)
+    → StreamFaults {T = T} Shown Shows Other u v (Err fault.OutOfMemory)
+faults_memory Shown Shows Leaves Other u v x one = record {
+  causes = record { disk = one.causes.disk; out = one.causes.out; reads = one.causes.reads; ok = tt; failed = λ is. cc; memory = λ is. one.causes.ok; damaged = λ damage is. cc };
+  damaged = tt;
+  undamaged = tt;
+  shows = one.shows;
+}
+
 -- fewer opened afterwards
 pub streamed_as : (K : Option Folder → Type 0) (A B O P Q : FileName → Type 0) (u v : View) → ((name : FileName) → Q name → P name)
     → HasStreamed K A B O P u v → HasStreamed K A B O Q u v

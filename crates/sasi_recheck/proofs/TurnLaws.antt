@@ -1,13 +1,9 @@
 -- Turns over candidates that don't pass, and what they cost.
-use Rattle.std.proofs.Common.{◌≡◌, ℕ, zero, suc, ◌+◌, ◌≤◌, Bool, true, false, cond, Option, None, Some, Ok, Err, List, [], ◌∷◌, ◌++◌, length, drop, take, sum, append-nil, refl, sym, ap, subst, ◌∙◌, arith}
+use Rattle.std.proofs.Common.{◌≡◌, ℕ, zero, suc, ◌+◌, ◌≤◌, Bool, true, false, cond, Option, None, Some, List, [], ◌∷◌, ◌++◌, length, drop, take, sum, append-nil, refl, sym, ap, subst, ◌∙◌, arith}
 use Rattle.std.proofs.lemmas.List.Sums.{sum_by-cons}
 use Rattle.std.specs.List.{AllByRecursion}
 use Rattle.sasi_types.specs.declared.column.ColumnType.{ColumnType}
-use Rattle.sasi_host.specs.declared.damage.Damage.{Damage}
-use Rattle.sasi_host.specs.declared.fault.ReadFault.TheVariants.{OutOfMemory}
-use Rattle.sasi_host.specs.View.{View}
 use Rattle.sasi_model.specs.Cells.{Partition}
-use Rattle.sasi_ranges.specs.StreamCalls.{StreamFaults}
 use Rattle.sasi_recheck.specs.Rows.{asked_in, asked_to, looked_to}
 use Rattle.sasi_recheck.specs.Sources.{Candidate, GivesPrintable, IsPrintable, first_price}
 
@@ -38,17 +34,6 @@ entry_is e key part key_is part_is i = (record { token = e.0.token; key = sym ke
 
 pub given_printable : (kind : ColumnType) (found : Option (List ℕ × Partition)) (key : List ℕ) (part : Partition) → found ≡ Some (key, part) → GivesPrintable kind found → IsPrintable kind key part
 given_printable kind found key part is printable = subst (GivesPrintable kind) is printable
-
--- ---- faults
-
--- a call that lacks memory, behind reads that didn't fail
-pub faults_memory : {R T L : Type 0} (Shown Shows : Damage → Type 0) (Leaves : L → Type 0) (u v : View) (x : R) → StreamFaults Shown Shows Leaves u v (Ok x) → StreamFaults {T = T} Shown Shows Leaves u v (Err OutOfMemory)
-faults_memory Shown Shows Leaves u v x one = record {
-  causes = record { disk = one.causes.disk; out = one.causes.out; reads = one.causes.reads; ok = tt; failed = λ is. cc; memory = λ is. one.causes.ok; damaged = λ damage is. cc };
-  damaged = tt;
-  undamaged = tt;
-  shows = one.shows;
-}
 
 -- ---- turns
 

@@ -1,2 +1,4 @@
 pub mod Sources
 pub mod Rows
+pub mod Optional
+pub mod inside

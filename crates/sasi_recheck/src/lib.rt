@@ -3,7 +3,9 @@
 #![tactic(auto)]
 
 mod candidates;
+mod either_source;
 mod next_row;
+mod optional_source;
 mod recheck;
 
 pub use candidates::Candidates;

@@ -1,11 +1,11 @@
 use Rattle.std.proofs.Common.{Option, None, Some, Ok, List, subst, arith}
 use Rattle.std.proofs.lemmas.Result.{err_from_is_err_and}
 use Rattle.sasi_host.specs.Names.{Bytes}
-use Rattle.sasi_ranges.proofs.Calling.{faults_handed, faults_ok, streams_nothing}
+use Rattle.sasi_ranges.proofs.Calling.{faults_handed, faults_memory, faults_ok, streams_nothing}
 use Rattle.sasi_hits.specs.declared.open_searches.WordSearches.{WordSearches}
 use Rattle.sasi_hits.specs.IndexHits.{AreFresh, HitsLeave, HitsPay}
 use Rattle.sasi_hits.proofs.CallLaws.{streamed}
-use Rattle.sasi_hits.proofs.OpenHitLaws.{faults_memory, opened_hits, opened_hits_pay, opened_hits_ready, opening_hit_faults, unopened_hits_pay}
+use Rattle.sasi_hits.proofs.OpenHitLaws.{opened_hits, opened_hits_pay, opened_hits_ready, opening_hit_faults, unopened_hits_pay}
 use Rattle.sasi_hits.proofs.open_searches.open_searches.Goals as goal
 
 pub returns-in-Some-clause-read : goal.returns-in-Some-clause-read

@@ -5,10 +5,10 @@ use Rattle.sasi_types.specs.declared.class.Class.{Class}
 use Rattle.sasi_model.specs.Cells.{Partition}
 use Rattle.sasi_model.specs.Filters.{answers}
 use Rattle.sasi_machine.specs.Where.{where_of}
-use Rattle.sasi_ranges.proofs.Calling.{can_still, fails_nothing, faults_handed, faults_ok, faults_then, spent_err, streamed_then, streams_nothing}
+use Rattle.sasi_ranges.proofs.Calling.{can_still, fails_nothing, faults_handed, faults_memory, faults_ok, faults_then, spent_err, streamed_then, streams_nothing}
 use Rattle.sasi_recheck.specs.Rows.{KnowsWhere, asked_to, counted_on}
 use Rattle.sasi_recheck.specs.Sources.{GivesFirst, first_price}
-use Rattle.sasi_recheck.proofs.TurnLaws.{HasPassed, all_passed, asked_end, asked_more, asked_row, drop_next, entry_is, faults_memory, given_printable, looked_end, looked_row, passed_none, passed_one, sum_more, sum_next}
+use Rattle.sasi_recheck.proofs.TurnLaws.{HasPassed, all_passed, asked_end, asked_more, asked_row, drop_next, entry_is, given_printable, looked_end, looked_row, passed_none, passed_one, sum_more, sum_next}
 use Rattle.sasi_recheck.proofs.next_row.next_row.Goals as goal
 
 pub loop-turn-init : goal.loop-turn-init
@@ -139,7 +139,7 @@ returns-in_err-answers-in-Some-clause-faults g c =
     let u = g.H.Host.view c.args.host.now in
     let v = g.H.Host.view c.loop-turn.host in
     let w = g.H.Host.view c.next.new.host in
-    rw (q.1, q.2) (faults_memory _ _ _ u w c.in_ok-next.field-0 (faults_then _ _ _ _ _ u v w 0 _ (λ left is. (let passed = on.passed left is in (passed.rest, passed.others))) (on.faults 0) c.in_ok-next.ensures.faults))
+    rw (q.1, q.2) (faults_memory _ _ _ _ u w c.in_ok-next.field-0 (faults_then _ _ _ _ _ u v w 0 _ (λ left is. (let passed = on.passed left is in (passed.rest, passed.others))) (on.faults 0) c.in_ok-next.ensures.faults))
 
 pub returns-then-branch-clause-row : goal.returns-then-branch-clause-row
 returns-then-branch-clause-row g c left is =
@@ -248,4 +248,4 @@ returns-clause-reads g c left most prices is pays =
 
 pub returns-clause-faults : goal.returns-clause-faults
 returns-clause-faults g c =
-    faults_memory _ _ _ (g.H.Host.view c.args.host.now) (g.H.Host.view c.loop-turn.host) 0 (c.loop-turn.invariant.faults 0)
+    faults_memory _ _ _ _ (g.H.Host.view c.args.host.now) (g.H.Host.view c.loop-turn.host) 0 (c.loop-turn.invariant.faults 0)

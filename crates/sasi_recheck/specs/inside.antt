@@ -1,0 +1,2 @@
+pub mod EitherLaws
+pub mod OptionalLaws
