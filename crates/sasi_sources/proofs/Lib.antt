@@ -1,0 +1,3 @@
+pub mod Printables
+mod KeyGiving
+mod ScanGiving

@@ -1,0 +1,4 @@
+pub mod Maps
+pub mod KeyCandidates
+pub mod ScanCandidates
+pub mod inside
