@@ -12,7 +12,7 @@ use Rattle.sasi_memindex.specs.declared.map_part.MapPart.{MapPart}
 use Rattle.sasi_views.specs.declared.part.Part.{Part}
 use Rattle.sasi_views.specs.declared.part.Part.TheVariants.{File, Map}
 use Rattle.sasi_hits.specs.declared.hits.Hits.{Hits}
-use Rattle.sasi_plan.specs.declared.part_hits.PartHits.{PartHits}
+use Rattle.sasi_narrow.specs.declared.part_hits.PartHits.{PartHits}
 use Rattle.sasi_plan.specs.declared.relation.IndexedRelation.{IndexedRelation}
 use Rattle.sasi_plan.specs.Asked.{first_lacking}
 use Rattle.sasi_plan.specs.HitLists.{key_count, own_count, own_positions, part_positions, position_rows}

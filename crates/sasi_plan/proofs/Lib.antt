@@ -15,3 +15,21 @@ mod IndexLevels
 mod Opening
 mod Paying
 pub mod Places
+pub mod KeyPlaces
+pub mod TokenCandidates
+mod TokenTaking
+mod MapFinding
+pub mod CandidateOrder
+pub mod HandKeys
+pub mod TokenRuns
+mod PartFinding
+pub mod LookCosts
+pub mod WorldLaws
+mod TurnedLaws
+mod OwingLaws
+mod LookedLaws
+mod SourceCalls
+mod NewLaws
+mod HandLaws
+mod TurnLaws
+mod StepLaws

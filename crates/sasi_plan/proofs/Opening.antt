@@ -31,7 +31,7 @@ and_true : (b c : Bool) → b ≡ true → c ≡ true → (b && c) ≡ true
 and_true true c first second = second
 and_true false c first second = first
 
-own_name : (name : FileName) → name_eq name name ≡ true
+pub own_name : (name : FileName) → name_eq name name ≡ true
 own_name name =
     and_true _ _ (and_true _ _ (and_true _ _ (own_number (rank name.kind)) (own_number name.number)) (own_number name.index)) (own_number name.part)
 

@@ -80,7 +80,7 @@ module _ (folder : Folder) (p : Partitioner) (t : TableParts) (own : HasOwnIndex
     parts_placed files (v ∷ vs) (q ∷ ps) is =
         ap₂ (λ (h : HitsIn) hs. h ∷ hs) (part_place files v q is.0) (ap (λ n. all_hits book relations n vs) (part_files files v q is.0) ∙ parts_placed (files_after files q.origin) vs ps is.1)
 
-    asked_long : (rs : List IndexedRelation) (more : List Asked) → AreAsked t rs more → length rs ≡ length more
+    pub asked_long : (rs : List IndexedRelation) (more : List Asked) → AreAsked t rs more → length rs ≡ length more
     asked_long [] [] each = refl
     asked_long [] (a ∷ more) each = absurd each
     asked_long (r ∷ rs) [] each = absurd each

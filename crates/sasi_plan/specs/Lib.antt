@@ -4,3 +4,6 @@ pub mod Parts
 pub mod Plans
 pub mod Views
 pub mod inside
+pub mod TokenHits
+pub mod TokenTurns
+pub mod HitCandidates

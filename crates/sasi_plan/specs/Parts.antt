@@ -3,8 +3,8 @@ use Rattle.std.specs.Prelude.{ℕ, suc, Bool, List, [], ◌∷◌, map}
 use Rattle.std.specs.List.{filter}
 use Rattle.sasi_types.specs.declared.decorated_key.DecoratedKey.{DecoratedKey}
 use Rattle.sasi_candidates.specs.Parts.{Disk, Memory, Origin, Part}
-use Rattle.sasi_plan.specs.declared.part_hits.PartHits.{PartHits}
-use Rattle.sasi_plan.specs.declared.part_hits.PartHits.TheVariants.{File, Map}
+use Rattle.sasi_narrow.specs.declared.part_hits.PartHits.{PartHits}
+use Rattle.sasi_narrow.specs.declared.part_hits.PartHits.TheVariants.{File, Map}
 use Rattle.sasi_plan.specs.Asked.{Asked, indexed_in, is_hit, keys_of}
 
 -- as `PartHits`, with lists: in a file with its position among the files, of each relation whether the file has its index; in a map, of

@@ -1,2 +1,4 @@
 pub mod Found
 pub mod Sources
+pub mod Steps
+pub mod SourceLaws

@@ -9,7 +9,7 @@ ghost use Rattle.sasi_memindex.specs.Hits.{keys_in};
 ghost use Rattle.sasi_memindex.specs.IndexOf.{IsIndexOf};
 ghost use Rattle.sasi_plan.specs.inside.Found.{HasIndexFor, found_in, is_in_all, keys_with};
 
-use crate::{FoundKeys, IndexedRelation};
+use crate::IndexedRelation;
 use sasi_memindex::{KeyList, MapPart, MemIndex};
 use sasi_terms::Op;
 use sasi_types::{DecoratedKey, Key, Term};
@@ -105,7 +105,7 @@ fn find_words(
     index: &MemIndex,
     op: &Op,
     words: &[Term],
-) -> Result<FoundKeys, AllocError>
+) -> Result<KeyList, AllocError>
     requires some { 1 ≤ length words.now }
     ensures { (m : Partitions) → IsIndexOf m index.now → IfOk result (λ found. found ≡ keys_with op.now words.now index.now m) }
 {
@@ -114,11 +114,11 @@ fn find_words(
     };
     let keys = index.search(op, first.bytes())?;
     if others.is_empty() {
-        return Ok(FoundKeys::of_one(keys));
+        return Ok(keys);
     }
     let lists = search_each(index, op, others, alloc)?;
     let common = common_keys(alloc, keys.as_slice(), &lists)?;
-    Ok(FoundKeys::of_all(common))
+    Ok(KeyList::new(common))
 }
 
 // The keys of a map that a relation finds.
@@ -126,7 +126,7 @@ pub(crate) fn find_keys(
     alloc: Global,
     map: &MapPart,
     relation: &IndexedRelation,
-) -> Result<FoundKeys, AllocError>
+) -> Result<KeyList, AllocError>
     requires some { 1 ≤ length relation.now.words }
     requires has { HasIndexFor map.now relation.now }
     ensures { IfOk result (λ found. found ≡ found_in map.now relation.now) }

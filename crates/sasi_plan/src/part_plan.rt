@@ -7,14 +7,15 @@ ghost use Rattle.sasi_plan.specs.inside.Found.{HasIndexFor, found_in};
 ghost use Rattle.sasi_plan.specs.Parts.{hits_in};
 ghost use Rattle.sasi_plan.specs.inside.Sources.{Adds, CanFind, HasWords, file_sources, found_sources, has_part, key_source, own_source, own_sources, part_bits, part_for, part_hits, part_sources};
 
+use crate::IndexedRelation;
 use crate::columns::PartPositions;
 use crate::find_keys::find_keys;
 use crate::streams::{index_stream, keys_stream, map_stream};
-use crate::{FoundKeys, IndexedRelation, PartHits};
 use sasi_hits::Hits;
 use sasi_host::{DataNumber, FileName};
 use sasi_manifest::PartNumber;
-use sasi_memindex::{MapBook, MapPart};
+use sasi_memindex::{KeyList, MapBook, MapPart};
+use sasi_narrow::PartHits;
 use sasi_ranges::Streams;
 use sasi_types::{IndexNumber, TypeList};
 use sasi_views::Part;
@@ -37,7 +38,7 @@ struct FilePlan {
 // Of each relation the keys that it finds in a map, and the position of its stream.
 #[derive(Drop)]
 struct MapPlan {
-    found: Vec<FoundKeys>,
+    found: Vec<KeyList>,
     positions: Vec<usize>,
 }
 

@@ -11,18 +11,20 @@ ghost use Rattle.sasi_ranges.specs.EachStream.{EachIsReady, EachPays, SomeOpens,
 ghost use Rattle.sasi_candidates.specs.Costs.{file_cost, files_of};
 ghost use Rattle.sasi_candidates.specs.Parts.{Part as TablePart};
 ghost use Rattle.sasi_hits.specs.Hits.{Opens, Pays, Ready, Shows};
+ghost use Rattle.sasi_narrow.specs.Narrowing.{TellsOf};
 ghost use Rattle.sasi_plan.specs.Asked.{Asked, asked_of};
-ghost use Rattle.sasi_plan.specs.Plans.{AreShort, IsPlanOf, IsShownIn, is_file_of};
+ghost use Rattle.sasi_plan.specs.Plans.{AreShort, IsPlanOf, IsShownIn, file_numbers, is_file_of};
 ghost use Rattle.sasi_plan.specs.Views.{IsPlannedFor};
 ghost use Rattle.sasi_plan.specs.HitLists.{columns_of, position_rows};
 ghost use Rattle.sasi_plan.specs.Parts.{hits_in};
 ghost use Rattle.sasi_plan.specs.inside.Sources.{AreStreams, CanFind, HasWords, all_hits, all_sources, files_with, part_bits};
 
+use crate::IndexedRelation;
 use crate::columns::{PartPositions, columns_of};
 use crate::part_plan::add_part;
-use crate::{IndexedRelation, PartHits};
 use sasi_hits::Hits;
 use sasi_memindex::MapBook;
+use sasi_narrow::PartHits;
 use sasi_ranges::{RelationStreams, Streams};
 use sasi_types::TypeList;
 use sasi_views::Part;
@@ -108,6 +110,10 @@ pub fn plan_streams(
     ensures pays { (folder : Folder) (partitioner : Partitioner) (t : TableParts) (conditions : List Condition) (seen : List TablePart) → IsPlannedFor folder partitioner t maps.now types.now relations.now parts.now (asked_of conditions) seen → AreShort folder parts.now → IfOk result (λ plan. EachPays Pays (Some folder) plan.streams (sum_by (file_cost partitioner conditions) (files_of seen))) }
 
     ensures count { IfOk result (λ plan. length plan.relations ≡ length relations.now) }
+    ensures few { IfOk result (λ plan. length relations.now < 2 ^ 32) }
+
+    // Of each part the hits are told of every relation.
+    ensures told { IfOk result (λ plan. AllByRecursion (TellsOf (length relations.now) (length (file_numbers parts.now))) plan.parts.items) }
 
     // In every folder they can be asked, and they read no files but those of the parts.
     ensures ready { IfOk result (λ plan. (files : Option Folder) → EachIsReady Ready files plan.streams) }

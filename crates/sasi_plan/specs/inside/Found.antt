@@ -14,13 +14,7 @@ use Rattle.sasi_model.specs.IndexTerms.{any_holds, terms_of_cell}
 use Rattle.sasi_memindex.specs.declared.map_part.MapPart.{MapPart}
 use Rattle.sasi_memindex.specs.IndexOf.{IsIndexOf}
 use Rattle.sasi_memindex.specs.MemIndexView.{MemIndexView}
-use Rattle.sasi_plan.specs.declared.found_keys.Keys.{Keys}
-use Rattle.sasi_plan.specs.declared.found_keys.Keys.TheVariants.{OfOne, OfAll}
 use Rattle.sasi_plan.specs.declared.relation.IndexedRelation.{IndexedRelation}
-
-abbrev pub keys_of : Keys → List DecoratedKey
-keys_of (OfOne keys) = keys
-keys_of (OfAll keys) = keys.items
 
 -- ---- several lists
 

@@ -12,7 +12,7 @@ returns c m is =
     let index = c.args.index.now in
     let first = c.in-Some.first.now in
     let others = c.in-Some.others.now in
-    c.of_all.ensures ∙ c.in_ok-common.ensures
+    c.new.ensures ∙ c.in_ok-common.ensures
     ∙ ap (λ (lists : List (List DecoratedKey)). filter (is_in_all lists) c.as_slice.result.now) (c.deref.ensures.value ∙ c.in_ok-lists.ensures.lists m is)
     ∙ ap (filter (is_in_all (map (λ word. keys_in op word index m) others))) (c.as_slice.ensures ∙ c.in_ok-keys.ensures.of_map m is ∙ ap (λ (b : List ℕ). keys_in op b index m) c.bytes.ensures)
     ∙ words_met op index m first others

@@ -1,6 +1,8 @@
-use Rattle.std.proofs.Common.{◌∙◌, List, ℕ, ap, length}
+use Rattle.std.proofs.Common.{◌∙◌, List, ℕ, ap, length, arith}
 use Rattle.sasi_plan.specs.HitLists.{columns_of}
 use Rattle.sasi_plan.proofs.Leaving.{streams_leave}
+use Rattle.sasi_plan.specs.Plans.{file_numbers}
+use Rattle.sasi_plan.proofs.NewLaws.{parts_told}
 use Rattle.sasi_plan.proofs.Opening.{streams_open, streams_ready, streams_show}
 use Rattle.sasi_plan.proofs.Paying.{streams_pay}
 use Rattle.sasi_plan.proofs.Places.{view_placed, view_served}
@@ -30,3 +32,6 @@ returns-clause-shows c files damage shows = streams_show c.args.maps.now c.args.
 
 pub returns-clause-count : goal.returns-clause-count
 returns-clause-count c = ap (λ (l : List (List ℕ)). length l) c.in_ok-relations.ensures ∙ columns_long c.deref.result.now (length c.args.relations.now)
+
+pub returns-clause-told : goal.returns-clause-told
+returns-clause-told c = parts_told c.args.maps.now c.args.relations.now 0 (length (file_numbers c.args.parts.now)) c.args.parts.now c.in_ok-made.made.parts.items c.requires.maps c.in_ok-made.ensures.parts (omega arith)
