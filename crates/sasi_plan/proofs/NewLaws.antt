@@ -201,7 +201,7 @@ unopened_open listed numbers name same opens =
 
 numbers_show : (listed : List view.Part) (types : List ColumnType) (seen : Option Folder) (numbers : List ℕ) (damage : Damage) → ((number : ℕ) → IsOneOf numbers number → is_file_of listed (data_name number) ≡ true) → FilesShow types seen (unopened_files numbers) damage → IsCandidateDamage listed types seen damage
 numbers_show listed types seen [] damage among shows = absurd shows
-numbers_show listed types seen (n ∷ numbers) damage among (inl here) = of_lookup (data_name n) (among n (inl refl)) here
+numbers_show listed types seen (n ∷ numbers) damage among (inl here) = of_lookup (data_name n) refl (among n (inl refl)) here
 numbers_show listed types seen (n ∷ numbers) damage among (inr later) = numbers_show listed types seen numbers damage (λ number is. among number (inr is)) later
 
 pub unopened_show : (listed : List view.Part) (types : List ColumnType) (seen : Option Folder) (numbers : List ℕ) (damage : Damage) → numbers ≡ file_numbers listed → FilesShow types seen (unopened_files numbers) damage → IsCandidateDamage listed types seen damage

@@ -7,6 +7,7 @@ use Rattle.std.specs.List.{AllByRecursion, list_any}
 use Rattle.sasi_types.specs.declared.column.ColumnType.{ColumnType}
 use Rattle.sasi_host.specs.declared.damage.Damage.{Damage}
 use Rattle.sasi_host.specs.declared.name.FileName.{FileName}
+use Rattle.sasi_host.specs.declared.name.Kind.TheVariants.{Data, Index}
 use Rattle.sasi_host.specs.Names.{Folder, data_name, name_eq, rank}
 use Rattle.sasi_manifest.specs.declared.files.PartNumber.{PartNumber}
 use Rattle.sasi_manifest.specs.ListedFiles.{index_name}
@@ -50,10 +51,10 @@ listed_name number (q ∷ parts) index part is = by (nat_eq q.index index) is (l
 
 -- ---- sources
 
--- the file that is read is one of these
+-- the file that is read is one of these, of its kind
 abbrev IsSourceIn : (FileName → Bool) → Source → Type 0
-IsSourceIn test (OfIndex file op words) = test file ≡ true
-IsSourceIn test (OfKeys file types) = test file ≡ true
+IsSourceIn test (OfIndex file op words) = (file.kind ≡ Index) × (test file ≡ true)
+IsSourceIn test (OfKeys file types) = (file.kind ≡ Data) × (test file ≡ true)
 IsSourceIn test (OfMap keys) = Unit {0}
 
 abbrev AreIn : (FileName → Bool) → List Planned → Type 0
@@ -66,7 +67,7 @@ in_append test (q ∷ qs) rs all others = (all.0, in_append test qs rs all.1 oth
 module _ (test : FileName → Bool) where
   key_in : (number at : ℕ) (types : List ColumnType) (o : Option ℕ) → test (data_name number) ≡ true → AreIn test (key_source number types at o)
   key_in number at types None is = tt
-  key_in number at types (Some leaf) is = (is, tt)
+  key_in number at types (Some leaf) is = ((refl, is), tt)
 
   own_in : (number at leaf : ℕ) (parts : List PartNumber) (relations : List IndexedRelation) → ((index : ℕ) (part : PartNumber) → part_for index parts ≡ Some part → test (index_name number part) ≡ true) → AreIn test (own_sources number parts at leaf relations)
   own_in number at leaf parts [] is = tt
@@ -75,7 +76,7 @@ module _ (test : FileName → Bool) where
     where
       by : (o : Option PartNumber) → part_for r.index parts ≡ o → AreIn test (own_source number at leaf r o)
       by None none = tt
-      by (Some part) found = (is r.index part found, tt)
+      by (Some part) found = ((refl, is r.index part found), tt)
 
   found_in_memory : (m : MapPart) (at leaf : ℕ) (relations : List IndexedRelation) → AreIn test (found_sources m at leaf relations)
   found_in_memory m at leaf [] = tt
@@ -105,8 +106,8 @@ module _ (test : FileName → Bool) where
   -- ---- streams
 
   one_opens : (source : Source) (leaf at : ℕ) (s : Hits) (name : FileName) → IsSourceIn test source → IsStream source leaf at s → Opens s name → test name ≡ true
-  one_opens (OfIndex file op words) leaf at s name has is opens = ap test (is.opens name opens) ∙ has
-  one_opens (OfKeys file types) leaf at s name has is opens = ap test (is.opens name opens) ∙ has
+  one_opens (OfIndex file op words) leaf at s name has is opens = ap test (is.opens name opens) ∙ has.1
+  one_opens (OfKeys file types) leaf at s name has is opens = ap test (is.opens name opens) ∙ has.1
   one_opens (OfMap keys) leaf at s name has is opens = absurd (is.opens name opens)
 
   some_opens : (qs : List Planned) (ss : List Hits) (name : FileName) → AreIn test qs → AreStreams qs ss → SomeOpens Opens ss name → test name ≡ true
@@ -117,8 +118,8 @@ module _ (test : FileName → Bool) where
 
 module _ (parts : List Part) (files : Option Folder) (damage : Damage) where
   one_shows : (source : Source) (leaf at : ℕ) (s : Hits) → IsSourceIn (is_file_of parts) source → IsStream source leaf at s → Shows s files damage → IsShownIn parts files damage
-  one_shows (OfIndex file op words) leaf at s has is shows = of_index file has (is.shows files damage shows)
-  one_shows (OfKeys file types) leaf at s has is shows = of_data file has (is.shows files damage shows)
+  one_shows (OfIndex file op words) leaf at s has is shows = of_index file has.0 has.1 (is.shows files damage shows)
+  one_shows (OfKeys file types) leaf at s has is shows = of_data file has.0 has.1 (is.shows files damage shows)
   one_shows (OfMap keys) leaf at s has is shows = absurd (is.shows files damage shows)
 
   some_shows : (qs : List Planned) (ss : List Hits) → AreIn (is_file_of parts) qs → AreStreams qs ss → SomeShows Shows files ss damage → IsShownIn parts files damage

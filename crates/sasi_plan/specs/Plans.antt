@@ -6,6 +6,7 @@ use Rattle.sasi_types.specs.declared.column.ColumnType.{ColumnType}
 use Rattle.sasi_types.specs.declared.partitioner.Partitioner.{Partitioner}
 use Rattle.sasi_host.specs.declared.damage.Damage.{Damage}
 use Rattle.sasi_host.specs.declared.name.FileName.{FileName}
+use Rattle.sasi_host.specs.declared.name.Kind.TheVariants.{Data, Index}
 use Rattle.sasi_host.specs.Names.{Bytes, Folder, data_name, name_eq}
 use Rattle.sasi_manifest.specs.ListedFiles.{index_name}
 use Rattle.sasi_views.specs.declared.part.Part as view
@@ -64,10 +65,10 @@ IsOneOf (n ∷ ns) number = (number ≡ n) ⊎ IsOneOf ns number
 
 -- the damage is that of one of the files: of a data file's key tree, or of an index file
 pub data IsShownIn (parts : List view.Part) (files : Option Folder) (damage : Damage) : Type 0 where
-  of_data : (file : FileName) → is_file_of parts file ≡ true → KeysShow file files damage → IsShownIn parts files damage
-  of_index : (file : FileName) → is_file_of parts file ≡ true → HitsShow file files damage → IsShownIn parts files damage
+  of_data : (file : FileName) → file.kind ≡ Data → is_file_of parts file ≡ true → KeysShow file files damage → IsShownIn parts files damage
+  of_index : (file : FileName) → file.kind ≡ Index → is_file_of parts file ≡ true → HitsShow file files damage → IsShownIn parts files damage
 
 -- or it shows where a data file is looked up
 pub data IsCandidateDamage (parts : List view.Part) (types : List ColumnType) (files : Option Folder) (damage : Damage) : Type 0 where
   of_hits : IsShownIn parts files damage → IsCandidateDamage parts types files damage
-  of_lookup : (file : FileName) → is_file_of parts file ≡ true → FileShows types file files damage → IsCandidateDamage parts types files damage
+  of_lookup : (file : FileName) → file.kind ≡ Data → is_file_of parts file ≡ true → FileShows types file files damage → IsCandidateDamage parts types files damage
