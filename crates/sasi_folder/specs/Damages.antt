@@ -13,6 +13,7 @@ use Rattle.sasi_dataread.specs.Damages as data_file
 use Rattle.sasi_dataread.specs.Damages.{ShowsData}
 use Rattle.sasi_dataread.specs.HeaderAndFooter.{HasHeaderAndFooter}
 use Rattle.sasi_dataread.specs.Opened.{OpenDataFile}
+use Rattle.sasi_indexread.specs.Damages.{ShowsIndexFile}
 use Rattle.sasi_indexread.specs.HeaderAndFooter as index_file
 use Rattle.sasi_commitlog.specs.Damages.{ShowsLog}
 use Rattle.sasi_manifest.specs.declared.listing.Listing.{Listing}
@@ -74,11 +75,12 @@ pub record IsOpenedFrom (tables : List ListedDefinition) (number : ℕ) (bytes :
   pub types : opened.types ≡ types_of table.definition
   pub parts : HasHeaderAndFooter bytes (record { tree = opened.tree; max_timestamp = opened.max_timestamp; end = opened.end })
 
--- A listed file isn't there, or breaks its format: its end, its header or the numbers of its footer, which an opening of the folder and a reader look at, or in a data file what these lead to.
+-- A listed file isn't there, or breaks its format: its end, its header or the numbers of its footer, which an opening of the folder and a reader look at, or what these lead to.
 pub data ShowsListedFile (folder : Folder) (tables : List ListedDefinition) (damage : Damage) : Type 0 where
   missing_file : (name : FileName) → IsListedName tables name → ShowsMissing folder name damage → ShowsListedFile folder tables damage
   broken_ends : (name : FileName) (bytes : Bytes) → IsListedName tables name → get folder name ≡ Some bytes → ShowsEnds name bytes damage → ShowsListedFile folder tables damage
   broken_content : (number : ℕ) (bytes : Bytes) (opened : OpenDataFile) → get folder (data_name number) ≡ Some bytes → IsOpenedFrom tables number bytes opened → ShowsData opened bytes damage → ShowsListedFile folder tables damage
+  broken_index : (name : FileName) (bytes : Bytes) → IsListedName tables name → name.kind ≡ kinds.Index → get folder name ≡ Some bytes → ShowsIndexFile name bytes damage → ShowsListedFile folder tables damage
 
 -- the manifest of this number isn't there, breaks its format, or lists a segment or a file of a table that does
 pub data ShowsManifestOrListed (folder : Folder) (number : ℕ) (damage : Damage) : Type 0 where

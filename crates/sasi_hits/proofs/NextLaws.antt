@@ -10,7 +10,7 @@ use Rattle.sasi_host.proofs.ContentLaws.{contents_same}
 use Rattle.sasi_terms.specs.declared.op.Op.{Op}
 use Rattle.sasi_treemerge.specs.Merges.{SpendsReads}
 use Rattle.sasi_indexwrite.specs.Content.{IndexContent}
-use Rattle.sasi_indexread.specs.Damages.{ShowsIndex}
+use Rattle.sasi_indexread.specs.Damages.{ShowsIndex, ShowsIndexFile}
 use Rattle.sasi_indexread.specs.HeaderAndFooter.{HasHeaderAndFooter}
 use Rattle.sasi_indexread.specs.Opened.{OpenIndexFile}
 use Rattle.sasi_indexread.specs.Searches.{Searching}
@@ -19,8 +19,8 @@ use Rattle.sasi_hits.specs.declared.open_searches.WordSearches.{WordSearches}
 use Rattle.sasi_hits.specs.declared.word_search.WordSearch.{WordSearch}
 use Rattle.sasi_hits.specs.Calls.{ShowsIn, quiet}
 use Rattle.sasi_hits.specs.HitPairs.{AreHits}
-use Rattle.sasi_hits.specs.IndexHits.{AreOpen, HitsShow, SearchesLeave, ShowsIndexFile}
-use Rattle.sasi_hits.specs.IndexHits.ShowsIndexFile.{inside}
+use Rattle.sasi_hits.specs.IndexHits.{AreOpen, HitsShow, SearchesLeave}
+use Rattle.sasi_indexread.specs.Damages.ShowsIndexFile.{inside}
 use Rattle.sasi_hits.specs.Pairs.{GivesPair}
 use Rattle.sasi_hits.specs.WordSearches.{AreSearching, CanMeet, MeetLeaves, MeetPays, words_cost}
 use Rattle.sasi_hits.specs.inside.Moving.{are_searching_move, can_meet_moves}

@@ -32,8 +32,9 @@ use Rattle.sasi_hits.specs.declared.open_searches.WordSearches.{WordSearches}
 use Rattle.sasi_hits.specs.declared.word_search.WordSearch.{WordSearch}
 use Rattle.sasi_hits.specs.Calls.{ShowsIn, quiet}
 use Rattle.sasi_hits.specs.HitPairs.{AreHits}
-use Rattle.sasi_hits.specs.IndexHits.{AreFresh, AreOpen, HitsLeave, HitsPay, HitsShow, ShowsIndexFile, all_cost}
-use Rattle.sasi_hits.specs.IndexHits.ShowsIndexFile.{outside}
+use Rattle.sasi_hits.specs.IndexHits.{AreFresh, AreOpen, HitsLeave, HitsPay, HitsShow, all_cost}
+use Rattle.sasi_indexread.specs.Damages.{ShowsIndexFile}
+use Rattle.sasi_indexread.specs.Damages.ShowsIndexFile.{outside}
 use Rattle.sasi_hits.specs.WordSearches.{AllCanFollow, AreSearching, AskWords, Behind, CanFollow, IsFollowing, IsFreshWord, IsGiven, IsToCome, others_cost}
 use Rattle.sasi_hits.proofs.CallLaws.{faults_of}
 use Rattle.sasi_hits.proofs.Lists.{all_as}

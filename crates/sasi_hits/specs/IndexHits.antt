@@ -1,7 +1,6 @@
 -- The hits that an index file gives.
 use Rattle.std.specs.Prelude.{◌≡◌, ℕ, ◌+◌, ◌≤◌, List, ◌∷◌, map, Option, None, Some}
 use Rattle.std.specs.List.{AllByRecursion, sum_by}
-use Rattle.sasi_types.specs.declared.column.ColumnType.{ColumnType}
 use Rattle.sasi_types.specs.declared.tree.Pair.{Pair}
 use Rattle.sasi_host.specs.declared.name.FileName.{FileName}
 use Rattle.sasi_host.specs.declared.damage.Damage.{Damage}
@@ -10,10 +9,9 @@ use Rattle.sasi_host.specs.View.{contents_in}
 use Rattle.sasi_terms.specs.declared.op.Op.{Op}
 use Rattle.sasi_indexwrite.specs.Content.{IndexContent}
 use Rattle.sasi_indexwrite.specs.Files.{IsIndexFile}
-use Rattle.sasi_indexwrite.specs.declared.footer.Footer.{Footer}
 use Rattle.sasi_indexread.specs.Costs.{whole_cost}
-use Rattle.sasi_indexread.specs.Damages.{ShowsIndex}
-use Rattle.sasi_indexread.specs.HeaderAndFooter.{HasHeaderAndFooter, ShowsHeaderOrFooter}
+use Rattle.sasi_indexread.specs.Damages.{ShowsIndexFile}
+use Rattle.sasi_indexread.specs.HeaderAndFooter.{HasHeaderAndFooter}
 use Rattle.sasi_indexread.specs.Opened.{OpenIndexFile}
 use Rattle.sasi_indexread.specs.Searches.{IsFresh}
 use Rattle.sasi_ranges.specs.declared.entry.Entry.{Entry}
@@ -29,15 +27,6 @@ pub record ReadsAsIndex (files : Option Folder) (file : FileName) (bytes : Bytes
   pub index_file : IsIndexFile bytes content
 
 -- ---- damage
-
--- the view of a file that was opened by these numbers of its footer
-abbrev pub opened_by : FileName → ColumnType → Footer → OpenIndexFile
-opened_by file kind numbers = record { file = file; kind = kind; blocks = numbers.blocks; spill = numbers.spill }
-
--- the damage is that of this index file: of its header or its footer, or of a part to which the footer leads
-pub data ShowsIndexFile (file : FileName) (bytes : Bytes) (damage : Damage) : Type 0 where
-  outside : ShowsHeaderOrFooter file bytes damage → ShowsIndexFile file bytes damage
-  inside : (kind : ColumnType) (numbers : Footer) → HasHeaderAndFooter bytes kind numbers → ShowsIndex (opened_by file kind numbers) bytes damage → ShowsIndexFile file bytes damage
 
 abbrev pub HitsShow : FileName → Option Folder → Damage → Type 0
 HitsShow file = ShowsIn file (ShowsIndexFile file)

@@ -1,16 +1,14 @@
 -- What is printed of texts and of the values of a row.
 use Rattle.std.proofs.Common.{◌≡◌, ◌==◌, ◌||◌, ◌≤◌, ◌-◌, ℕ, length, take, drop, get_or, arith, Bool, true, false, cond, List, [], ◌∷◌, ◌++◌, map, codes, Option, Result, Ok, Err, OnOk, is_ok, if◌then◌else◌, refl, sym, ap, ◌∙◌, append_assoc}
 use Rattle.std.specs.List.{flat_map, list_any}
-use Rattle.std.proofs.lemmas.List.{append-nil, take_all}
-use Rattle.sasi_types.specs.declared.column.ColumnType.{ColumnType}
+use Rattle.std.proofs.lemmas.List.{take_all}
 use Rattle.sasi_cells.specs.declared.picked.PickedColumn.{PickedColumn}
-use Rattle.sasi_cells.specs.Rows.{picked_value}
 use Rattle.sasi_types.specs.declared.value.Value.{Value}
-use Rattle.sasi_model.specs.Abbreviations.{printed_byte, row_line, row_text}
+use Rattle.sasi_model.specs.Abbreviations.{printed_byte, row_text}
 use Rattle.sasi_model.specs.Lines.{printed}
 
 -- a text without quotes is printed as it is
-pub plain : (text : List ℕ) → list_any (λ b. b == 39) text ≡ false → flat_map printed_byte text ≡ text
+plain : (text : List ℕ) → list_any (λ b. b == 39) text ≡ false → flat_map printed_byte text ≡ text
 plain [] none = refl
 plain (b ∷ text) none = by (b == 39) refl none (plain text)
   where

@@ -39,6 +39,11 @@ pub trait Candidates {
     /// Whatever the files are, what it gives can be printed in a table whose keys have this type.
     ghost prints: { Self → Option Folder → Book → ColumnType → Type 0 };
 
+    /// What no call changes.
+    ghost Kept: { Type 0 } = { Unit {0} };
+
+    ghost kept: { Self → Self.Kept };
+
     /// The next candidate; None exactly where none is left.
     fn next<H: Host, P: PageReader>(
         &mut self,
@@ -53,6 +58,7 @@ pub trait Candidates {
             → Spends (λ rest. pays self.new (H.view host.new).files maps.now rest (drop 1 prices)) (most + first_price prices) (H.view host.old).reads (H.view host.new).reads result }
         ensures ready { OnOk result (ready self.new (H.view host.new).files maps.now) }
         ensures uses { (number : ℕ) → uses self.new number → uses self.old number }
+        ensures kept { kept self.new ≡ kept self.old }
         ensures prints { (kind : ColumnType) → prints self.old (H.view host.old).files maps.now kind → IfOk result (GivesPrintable kind) }
         ensures still_prints { (kind : ColumnType) → prints self.old (H.view host.old).files maps.now kind → OnOk result (prints self.new (H.view host.new).files maps.now kind) }
         ensures read { HasStreamed (P.agrees pages.new) (P.covers pages.old) (P.covers pages.new) (opens self.old) (opens self.new) (H.view host.old) (H.view host.new) }

@@ -24,6 +24,8 @@ impl<L: Candidates, R: Candidates> Candidates for Either<L, R> {
 
     ghost prints = { λ s files book kind. MatchEither s (λ a. L.prints a files book kind) (λ b. R.prints b files book kind) };
 
+    ghost kept = { λ _. tt };
+
     ghost keeps = { either_keeps L.opens R.opens L.uses R.uses L.ready R.ready L.leaves R.leaves L.pays R.pays L.prints R.prints L.keeps R.keeps };
 
     fn next<H: Host, P: PageReader>(

@@ -36,6 +36,7 @@ pub(crate) fn next_row<C: Candidates, H: Host, P: PageReader>(
         → Spends (λ rest. C.pays candidates.new (H.view host.new).files maps.now rest (drop (asked_to (answers (where_of filter.now)) left) prices)) (most + sum (take (asked_to (answers (where_of filter.now)) left) prices)) (H.view host.old).reads (H.view host.new).reads result }
     ensures ready { OnOk result (C.ready candidates.new (H.view host.new).files maps.now) }
     ensures uses { (number : ℕ) → C.uses candidates.new number → C.uses candidates.old number }
+    ensures kept { C.kept candidates.new ≡ C.kept candidates.old }
     ensures prints { (kind : ColumnType) → C.prints candidates.old (H.view host.old).files maps.now kind → IfOk result (GivesPrintable kind) }
     ensures still_prints { (kind : ColumnType) → C.prints candidates.old (H.view host.old).files maps.now kind → OnOk result (C.prints candidates.new (H.view host.new).files maps.now kind) }
     ensures kinds { map (λ b. kind (b.vtable, b.value)) kit.new.objects.items ≡ map (λ b. kind (b.vtable, b.value)) kit.old.objects.items }

@@ -25,6 +25,8 @@ impl<C: Candidates> Candidates for Option<C> {
 
     ghost prints = { λ s files book kind. SourceOr s (λ c. C.prints c files book kind) (Unit {0}) };
 
+    ghost kept = { λ _. tt };
+
     ghost keeps = { option_keeps C.opens C.uses C.ready C.leaves C.pays C.prints C.keeps };
 
     fn next<H: Host, P: PageReader>(

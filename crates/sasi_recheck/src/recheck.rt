@@ -73,6 +73,7 @@ impl<C: Candidates + Drop> Recheck<C> {
             (most + sum (take (asked_in self.old.rows_left (answers (where_of self.old.filter)) left) prices)) (H.view host.old).reads (H.view host.new).reads result }
         ensures ready { OnOk result (C.ready self.new.candidates (H.view host.new).files maps.now) }
         ensures uses { (number : ℕ) → C.uses self.new.candidates number → C.uses self.old.candidates number }
+        ensures kept { C.kept self.new.candidates ≡ C.kept self.old.candidates }
         // In any file what it gives can be printed.
         ensures prints { (kind : ColumnType) → C.prints self.old.candidates (H.view host.old).files maps.now kind → IfOk result (GivesPrintable kind) }
         ensures still_prints { (kind : ColumnType) → C.prints self.old.candidates (H.view host.old).files maps.now kind → OnOk result (C.prints self.new.candidates (H.view host.new).files maps.now kind) }
@@ -102,6 +103,13 @@ impl<C: Candidates + Drop> Recheck<C> {
         ensures { result ≡ self.now.checked }
     {
         self.checked
+    }
+
+    /// The conditions that a row has to meet.
+    pub fn filter(&self) -> &RowFilter
+        ensures { result.now ≡ self.now.filter }
+    {
+        &self.filter
     }
 
     /// The candidates that are left.

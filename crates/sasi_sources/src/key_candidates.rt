@@ -94,6 +94,8 @@ impl Candidates for KeyCandidates {
 
     ghost prints = { λ s files book kind. HasKeyType s.types (maps_in book s.map) kind };
 
+    ghost kept = { λ _. tt };
+
     ghost keeps = { λ s old new was now told same maps. key_keeps s.types s.files.items s.key s.map old new was now same maps };
 
     fn next<H: Host, P: PageReader>(

@@ -95,6 +95,8 @@ impl Candidates for ScanCandidates {
 
     ghost prints = { λ s files book kind. HasKeyType s.types (maps_in book s.map) kind };
 
+    ghost kept = { λ _. tt };
+
     ghost keeps = { λ s old new was now told same maps. scan_keeps s.types s.files.items s.scan s.map old new was now told same maps };
 
     fn next<H: Host, P: PageReader>(

@@ -22,6 +22,7 @@ loop-turn-init g c =
       count = refl;
       paid = λ most prices pays. (most, pays, omega arith);
       uses = λ number uses. uses;
+      kept = refl;
       prints = λ kind prints. prints;
       kinds = refl;
       read = streams_nothing _ _ (C.opens c.args.candidates.now) v c.requires.read.agrees;
@@ -228,6 +229,7 @@ loop-turn-preserved g c =
             omega (arith, one.2, paid.2, sum_next c.loop-turn._turn prices, ap (λ n. sum (take n prices)) more),
           );
       uses = λ number uses. on.uses number (c.next.ensures.uses number uses);
+      kept = c.next.ensures.kept ∙ on.kept;
       prints = λ kind prints. c.in_ok-next.ensures.still_prints kind (on.prints kind prints);
       kinds = c.answers.ensures.kinds ∙ on.kinds;
       read = streamed_then _ _ _ _ _ _ _ _ u v w on.read c.next.ensures.read;

@@ -24,6 +24,7 @@ invariant-loop-turn g l =
       paid : (most : ℕ) (prices : List ℕ) → C.pays l.fn.candidates u.files l.maps most prices
           → (rest : ℕ) × C.pays l.candidates v.files l.maps rest (drop l._turn prices) × (v.reads + rest ≤ u.reads + most + sum (take l._turn prices));
       uses : (number : ℕ) → C.uses l.candidates number → C.uses l.fn.candidates number;
+      kept : C.kept l.candidates ≡ C.kept l.fn.candidates;
       prints : (kind : ColumnType) → C.prints l.fn.candidates u.files l.maps kind → C.prints l.candidates v.files l.maps kind;
       kinds : map (λ b. (goal.Analyzer-dyn g (b.vtable, b.value)).kind b.value) l.kit.objects.items ≡ map (λ b. (goal.Analyzer-dyn g (b.vtable, b.value)).kind b.value) l.fn.kit.objects.items;
       read : HasStreamed (g.P.PageReader.agrees l.pages) (g.P.PageReader.covers l.fn.pages) (g.P.PageReader.covers l.pages) (C.opens l.fn.candidates) (C.opens l.candidates) u v;

@@ -1,0 +1,11 @@
+pub mod Asked
+pub mod HitLists
+pub mod Parts
+pub mod Plans
+pub mod Views
+pub mod Findable
+pub mod inside
+pub mod TokenHits
+pub mod TokenTurns
+pub mod HitCandidates
+pub mod KeyedHits

@@ -1,0 +1,5 @@
+pub mod Found
+pub mod Sources
+pub mod Steps
+pub mod KeyedSteps
+pub mod SourceLaws

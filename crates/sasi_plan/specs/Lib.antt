@@ -1,9 +1,0 @@
-pub mod Asked
-pub mod HitLists
-pub mod Parts
-pub mod Plans
-pub mod Views
-pub mod inside
-pub mod TokenHits
-pub mod TokenTurns
-pub mod HitCandidates

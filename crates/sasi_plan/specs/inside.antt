@@ -1,4 +1,0 @@
-pub mod Found
-pub mod Sources
-pub mod Steps
-pub mod SourceLaws
