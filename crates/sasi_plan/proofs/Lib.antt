@@ -1,0 +1,12 @@
+pub mod AskedLaws
+pub mod BeginLaws
+pub mod CandidateLaws
+pub mod GivenLaws
+pub mod LackingLaws
+pub mod PaidLaws
+pub mod PendingLaws
+pub mod PickedLaws
+pub mod PlanLaws
+pub mod ReaderLaws
+pub mod SinceLaws
+pub mod ViewLaws

@@ -1,0 +1,171 @@
+-- The parts of a view: what its data files and its map have, and what is looked at for them.
+use Rattle.std.proofs.Common.{◌≡◌, ℕ, ◌≤◌, ◌==◌, true, false, List, [], ◌∷◌, ◌++◌, length, map, Option, None, Some, refl, sym, ap, ap₂, subst, ◌∙◌, arith, inl, inr, rules}
+use Rattle.std.proofs.lemmas.List.{map-append}
+use Rattle.std.specs.FinMap as map_
+use Rattle.std.specs.List.{AllByRecursion}
+use Rattle.std.specs.Option.{option_map_or}
+use Rattle.sasi_types.specs.declared.column.ColumnType.{ColumnType}
+use Rattle.sasi_types.specs.declared.partitioner.Partitioner.{Partitioner}
+use Rattle.sasi_host.specs.declared.name.FileName.{FileName}
+use Rattle.sasi_host.specs.Names.{Folder, data_name}
+use Rattle.sasi_host.specs.View.{contents_in}
+use Rattle.sasi_cells.specs.Maps.{merged}
+use Rattle.sasi_model.specs.Abbreviations.{Partitions}
+use Rattle.sasi_memindex.specs.Book.{Book}
+use Rattle.sasi_memindex.specs.declared.map_part.MapPart.{MapPart}
+use Rattle.sasi_memtable.specs.MemtableView.{MemtableView}
+use Rattle.sasi_machine.specs.TableRows.{AreStored}
+use Rattle.sasi_manifest.specs.declared.files.ListedFile.{ListedFile}
+use Rattle.sasi_datawrite.specs.Format.{Content}
+use Rattle.sasi_layout.specs.Layout.{TableParts}
+use Rattle.sasi_scan.specs.Parts.{AreContents, merged_parts}
+use Rattle.sasi_scan.proofs.KeyLookups.{parts_are}
+use Rattle.sasi_sources.specs.KeyCandidates.{HasKeyType, IsListed}
+use Rattle.sasi_sources.specs.Maps.{IsMap, maps_in}
+use Rattle.sasi_views.specs.declared.part.Part as view
+use Rattle.sasi_views.specs.declared.part.Part.TheVariants as view_part
+use Rattle.sasi_candidates.specs.Costs.{files_of}
+use Rattle.sasi_candidates.specs.Parts.{Part, maps_of}
+use Rattle.sasi_engine.specs.declared.relation.IndexedRelation.{IndexedRelation}
+use Rattle.sasi_engine.specs.Asked.{Asked, asked_of}
+use Rattle.sasi_engine.specs.HitCandidates.{PlanWorld, in_memory}
+use Rattle.sasi_engine.specs.Plans.{IsOneOf, file_numbers, is_file_of, map_numbers}
+use Rattle.sasi_engine.specs.TokenHits.{contents_in_files, maps_numbered, views_numbered}
+use Rattle.sasi_engine.specs.Views.{AreAsked, ArePartsOf, IsMapIn}
+use Rattle.sasi_engine.proofs.NewLaws.{all_listed, all_maps, numbered_file}
+use Rattle.sasi_engine.proofs.Places.{view_decorated}
+use Rattle.sasi_engine.proofs.WorldLaws.{files_made}
+use Rattle.sasi_plan.specs.Reading.{IsViewOf, first_map, listed_files}
+
+-- ---- relations
+
+pub none_asked : (t : TableParts) (relations : List IndexedRelation) (asked : List Asked) → AreAsked t relations asked → relations ≡ [] → asked ≡ []
+none_asked t [] [] are none = refl
+none_asked t [] (a ∷ asked) are none = absurd are
+none_asked t (r ∷ relations) asked are none = cc
+
+pub some_asked : (t : TableParts) (relations : List IndexedRelation) (asked : List Asked) → AreAsked t relations asked → 1 ≤ length relations → 1 ≤ length asked
+some_asked t [] asked are some = absurd (omega (arith, some))
+some_asked t (r ∷ relations) [] are some = absurd are
+some_asked t (r ∷ relations) (a ∷ asked) are some = omega arith
+
+pub no_relations : (relations : List IndexedRelation) → (length relations == 0) ≡ true → relations ≡ []
+no_relations [] is = refl
+no_relations (r ∷ relations) is = let none : length (r ∷ relations) ≡ 0 = search (rules, is) in absurd (omega (arith, none))
+
+pub some_relations : (relations : List IndexedRelation) → (length relations == 0) ≡ false → 1 ≤ length relations
+some_relations [] is = cc
+some_relations (r ∷ relations) is = omega arith
+
+-- ---- what is looked at
+
+numbers_listed : (listed : List view.Part) → file_numbers listed ≡ map (λ (file : ListedFile). file.number) (listed_files listed)
+numbers_listed [] = refl
+numbers_listed (view_part.File number indexes ∷ listed) = ap (λ (ns : List ℕ). number ∷ ns) (numbers_listed listed)
+numbers_listed (view_part.Map number ∷ listed) = numbers_listed listed
+
+file_listed : (files : List ListedFile) (name : FileName) → IsListed files name → (number : ℕ) × IsOneOf (map (λ (file : ListedFile). file.number) files) number × (name ≡ data_name number)
+file_listed [] name is = absurd is
+file_listed (file ∷ files) name (inl same) = (file.number, inl refl, same)
+file_listed (file ∷ files) name (inr later) = let rest = file_listed files name later in (rest.0, inr rest.1, rest.2)
+
+-- **A listed data file is a file of the view,**
+pub listed_file : (listed : List view.Part) (name : FileName) → IsListed (listed_files listed) name → is_file_of listed name ≡ true
+listed_file listed name is =
+    let one = file_listed (listed_files listed) name is in
+    ap (is_file_of listed) one.2 ∙ numbered_file listed one.0 (subst (λ (ns : List ℕ). IsOneOf ns one.0) (sym (numbers_listed listed)) one.1)
+
+-- **and its first map is one of its maps.**
+pub mapped_one : (listed : List view.Part) (number : ℕ) → IsMap (first_map listed) number → IsOneOf (map_numbers listed) number
+mapped_one [] number is = absurd is
+mapped_one (view_part.File n indexes ∷ listed) number is = mapped_one listed number is
+mapped_one (view_part.Map n ∷ listed) number is = inl is
+
+-- ---- printable keys
+
+first_part : {A : Type 0} (P : A → Type 0) (xs ys : List A) → AllByRecursion P (xs ++ ys) → AllByRecursion P xs
+first_part P [] ys all = tt
+first_part P (x ∷ xs) ys all = (all.0, first_part P xs ys all.1)
+
+first_views : (P : MemtableView → Type 0) (book : Book) (listed : List view.Part) → AllByRecursion P (views_numbered book (map_numbers listed)) → AllByRecursion P (maps_in book (first_map listed))
+first_views P book [] all = tt
+first_views P book (view_part.File n indexes ∷ listed) all = first_views P book listed all
+first_views P book (view_part.Map n ∷ listed) all = first_part P (maps_in book (Some n)) (views_numbered book (map_numbers listed)) all
+
+pub first_typed : (types : List ColumnType) (book : Book) (listed : List view.Part) (kind : ColumnType) → HasKeyType types (views_numbered book (map_numbers listed)) kind → HasKeyType types (maps_in book (first_map listed)) kind
+first_typed types book listed kind has = record { first = has.first; stored = first_views (λ (m : MemtableView). AreStored kind m.partitions) book listed has.stored }
+
+-- ---- another book
+
+module _ (was now : Book) where
+  parts_stay : (folder : Folder) (p : Partitioner) (t : TableParts) (listed : List view.Part) (parts : List Part) → ((number : ℕ) → IsOneOf (map_numbers listed) number → map_.get now number ≡ map_.get was number)
+      → ArePartsOf folder p t was listed parts → ArePartsOf folder p t now listed parts
+  parts_stay folder p t [] [] same are = are
+  parts_stay folder p t [] (q ∷ parts) same are = are
+  parts_stay folder p t (v ∷ listed) [] same are = absurd are
+  parts_stay folder p t (view_part.File number indexes ∷ listed) (q ∷ parts) same are = (are.0, parts_stay folder p t listed parts same are.1)
+  parts_stay folder p t (view_part.Map number ∷ listed) (q ∷ parts) same are =
+      (subst (λ (o : Option MapPart). IsMapIn t o q) (sym (same number (inl refl))) are.0, parts_stay folder p t listed parts (λ n is. same n (inr is)) are.1)
+
+  -- **A view stays one in a book that has the same of its maps.**
+  pub view_stays : (w : PlanWorld) → ((number : ℕ) → IsOneOf (map_numbers w.listed) number → map_.get now number ≡ map_.get was number) → IsViewOf w was → IsViewOf w now
+  view_stays w same is = record {
+    planned = record {
+      own = is.planned.own;
+      types_are = is.planned.types_are;
+      relations_are = is.planned.relations_are;
+      parts_are = parts_stay w.folder w.partitioner w.table w.listed w.parts same is.planned.parts_are;
+    };
+    ordered = is.ordered;
+    own_tokens = is.own_tokens;
+    few = is.few;
+  }
+
+-- ---- the merge of its parts
+
+contents_numbered : (seen : Option Folder) (p : Partitioner) (types : List ColumnType) (files others : List ListedFile) (contents : List Content) → map (λ (file : ListedFile). file.number) others ≡ map (λ (file : ListedFile). file.number) files
+    → AreContents seen p types files contents → AreContents seen p types others contents
+contents_numbered seen p types [] [] contents same are = are
+contents_numbered seen p types [] (o ∷ others) contents same are = cc
+contents_numbered seen p types (f ∷ files) [] contents same are = cc
+contents_numbered seen p types (f ∷ files) (o ∷ others) [] same are = absurd are
+contents_numbered seen p types (f ∷ files) (o ∷ others) (c ∷ contents) same are =
+    let number : o.number ≡ f.number = cc in
+    let rest : map (λ (file : ListedFile). file.number) others ≡ map (λ (file : ListedFile). file.number) files = cc in (
+      record { bytes = are.0.bytes; reads = ap (λ n. contents_in seen (data_name n)) number ∙ are.0.reads; data_file = are.0.data_file; keys = are.0.keys },
+      contents_numbered seen p types files others contents rest are.1,
+    )
+
+first_alone : (folder : Folder) (p : Partitioner) (t : TableParts) (book : Book) (listed : List view.Part) (parts : List Part) → ArePartsOf folder p t book listed parts → length (map_numbers listed) ≤ 1
+    → map (λ (m : MemtableView). m.partitions) (maps_in book (first_map listed)) ≡ maps_numbered book (map_numbers listed)
+first_alone folder p t book [] parts are few = refl
+first_alone folder p t book (v ∷ listed) [] are few = absurd are
+first_alone folder p t book (view_part.File number indexes ∷ listed) (q ∷ parts) are few = first_alone folder p t book listed parts are.1 few
+first_alone folder p t book (view_part.Map number ∷ listed) (q ∷ parts) are few = by (map_.get book number) are.0 ∙ ap (λ (ns : List ℕ). maps_numbered book (number ∷ ns)) (sym (none (map_numbers listed) (omega (arith, few))))
+  where
+    none : (ns : List ℕ) → length ns ≤ 0 → ns ≡ []
+    none [] le = refl
+    none (n ∷ ns) le = absurd (omega (arith, le))
+
+    by : (o : Option MapPart) → IsMapIn t o q → map (λ (m : MemtableView). m.partitions) (option_map_or (λ (part : MapPart). part.map ∷ []) o []) ≡ option_map_or (λ (m : MapPart). m.map.partitions) o map_.empty ∷ []
+    by None is = absurd is
+    by (Some m) is = refl
+
+module _ (w : PlanWorld) (book : Book) (is : IsViewOf w book) where
+  -- **The listed files have the contents of its parts,**
+  pub view_contents : AreContents (Some w.folder) w.partitioner w.types (listed_files w.listed) (contents_in_files w.parts)
+  view_contents =
+      let have = all_listed w.folder w.partitioner w.table book w.types is.planned.types_are w.listed w.parts is.planned.parts_are in
+      contents_numbered (Some w.folder) w.partitioner w.types have.files (listed_files w.listed) (contents_in_files w.parts) (sym (numbers_listed w.listed) ∙ have.numbers_are) have.contents_are
+
+  -- **and the merge of them and of its map is that of its parts.**
+  pub view_merged : merged_parts w.partitioner (contents_in_files w.parts) (maps_in book (first_map w.listed)) ≡ merged (maps_of w.parts)
+  view_merged =
+      ap merged (
+      parts_are w.partitioner (contents_in_files w.parts) (maps_in book (first_map w.listed))
+      ∙ ap₂ (λ (a b : List Partitions). a ++ b)
+      (files_made w.partitioner w.parts (view_decorated w.folder w.partitioner w.table book w.types w.relations w.listed (asked_of w.conditions) w.parts is.planned))
+      (first_alone w.folder w.partitioner w.table book w.listed w.parts is.planned.parts_are is.few ∙ all_maps w.folder w.partitioner w.table book w.types is.planned.types_are w.listed w.parts is.planned.parts_are)
+      ∙ sym (map-append (λ (part : Part). part.holds) (files_of w.parts) (in_memory w.parts))
+      ∙ ap maps_of (sym is.ordered)
+      )
