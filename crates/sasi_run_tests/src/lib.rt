@@ -7,6 +7,8 @@ mod cases;
 #[cfg(test)]
 mod crashes;
 #[cfg(test)]
+mod loads;
+#[cfg(test)]
 mod machine;
 #[cfg(test)]
 mod manifests;

@@ -24,24 +24,35 @@ fn source_of(rt: &impl Abort, alloc: Global, script: &str) -> MemSource {
     MemSource::new(bytes, 4096, Vec::new(alloc))
 }
 
-/// The status of a run of a script, which is handed the analyzer of whole texts.
-fn status_of(rt: &impl Abort, alloc: Global, script: &str, host: &mut MemHost) -> Status {
-    let mut source = source_of(rt, alloc, script);
+/// The analyzer of whole texts.
+fn whole(rt: &impl Abort, alloc: Global) -> Vec<Box<dyn Analyzer>> {
     let mut analyzers: Vec<Box<dyn Analyzer>> = Vec::new(alloc);
     let whole = Box::new(alloc, Whole::new()).expect(rt, "memory");
     assert!(rt; analyzers.push(whole).is_ok());
-    run(alloc, &words(rt, alloc), &mut source, host, analyzers)
+    analyzers
 }
 
-/// The status of a run of a script, and what it emitted.
+/// The status of a run of a script, which is handed the analyzer of whole texts, and what it emitted.
 pub fn run_script(
     rt: &impl Abort,
     alloc: Global,
     script: &str,
     host: &mut MemHost,
 ) -> (Status, Vec<u8>) {
+    run_with(rt, alloc, script, host, whole(rt, alloc))
+}
+
+/// The status of a run of a script, which is handed these analyzers, and what it emitted.
+pub fn run_with(
+    rt: &impl Abort,
+    alloc: Global,
+    script: &str,
+    host: &mut MemHost,
+    analyzers: Vec<Box<dyn Analyzer>>,
+) -> (Status, Vec<u8>) {
     let before = host.emitted().len();
-    let status = status_of(rt, alloc, script, host);
+    let mut source = source_of(rt, alloc, script);
+    let status = run(alloc, &words(rt, alloc), &mut source, host, analyzers);
     let emitted = host.emitted().get(before..).unwrap_or(&[]);
     (status, emitted.to_vec(alloc).expect(rt, "memory"))
 }

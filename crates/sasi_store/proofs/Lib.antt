@@ -1,7 +1,3 @@
-mod Tables
-mod Printables
-mod Printing
-mod KeyRows
 pub mod SegmentDeletions
 pub mod MapWriting
 pub mod PushFaults
@@ -40,3 +36,9 @@ pub mod Selecting
 pub mod Prepared
 pub mod Known
 pub mod KnownClasses
+pub mod ViewFiles
+pub mod ViewWorlds
+pub mod Planned
+pub mod SelectWorlds
+pub mod ViewDamage
+pub mod ReadRows

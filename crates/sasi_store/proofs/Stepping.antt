@@ -46,7 +46,7 @@ use Rattle.sasi_store.specs.Faults.{OnMissing, OnSpent, OnStepDamage, StepCauses
 use Rattle.sasi_store.proofs.KnownClasses.{no_table_lacks}
 use Rattle.sasi_schema.specs.Numbers.{number_of_table}
 use Rattle.sasi_store.specs.MakesMoves.{MakesMoves}
-use Rattle.sasi_store.specs.Selects.{select_reads, selection_reads}
+use Rattle.sasi_store.specs.Selects.{HasShortFiles, HasShortRows, HasShortTable, select_reads, selection_reads}
 use Rattle.sasi_store.specs.Steps.{StepPromises}
 use Rattle.sasi_store.specs.declared.fault.StepFault.{StepFault}
 use Rattle.sasi_store.specs.declared.fault.StepFault.TheVariants as fault
@@ -133,7 +133,7 @@ module _ {T : Type 0} (kinds : List Class) (a b : View) (old new : StoreInMemory
     undamaged = λ w serves. tt;
     reads_only = λ none. absurd (changing (sym is ∙ none));
     unread = λ other. makes.reads;
-    reads = λ w serves. omega (arith, makes.reads);
+    reads = λ w serves short. omega (arith, makes.reads);
     changes = makes.changes;
     causes = record { disk = makes.causes.disk; out = makes.causes.out; ok = makes.causes.ok; failed = tt; others = tt };
   }
@@ -154,7 +154,7 @@ module _ {T : Type 0} (kinds : List Class) (a b : View) (old new : StoreInMemory
     undamaged = λ w serves. makes.undamaged;
     reads_only = λ none. absurd (changing (sym is ∙ none));
     unread = λ other. makes.reads;
-    reads = λ w serves. omega (arith, makes.reads);
+    reads = λ w serves short. omega (arith, makes.reads);
     changes = makes.changes;
     causes = record { disk = makes.causes.disk; out = makes.causes.out; ok = tt; failed = makes.causes.failed; others = makes.causes.others };
   }
@@ -181,7 +181,7 @@ step_not_made kinds v sound old piece reply e other unspent undamaged missing = 
   undamaged = λ w serves. undamaged;
   reads_only = λ none. stays v;
   unread = λ other. refl;
-  reads = λ w serves. omega arith;
+  reads = λ w serves short. omega arith;
   changes = any_change Same v v (stays v);
   causes = none_made v (Err e) (λ f is same. (let one : e ≡ f = cc in other (one_then one same)));
 }
@@ -233,7 +233,7 @@ step_answered kinds v sound old piece reply outcome ready is steps_to = record {
   undamaged = λ w serves. tt;
   reads_only = λ none. stays v;
   unread = λ other. refl;
-  reads = λ w serves. omega arith;
+  reads = λ w serves short. omega arith;
   changes = any_change Same v v (stays v);
   causes = none_made v (Ok outcome) (λ e same. cc);
 }
@@ -251,9 +251,21 @@ select_costs seen l s piece rows are (statement, says, in_order, selects) = ap (
         ∙ ap (λ (q : Select). selection_reads seen l (record { table = rows.table; select = q })) (sym selects.select_is)
     by statement selects = absurd selects
 
+-- so what its bound supposes is what that of the table does
+select_short : (seen : Option Folder) (l : Layout) (s : State) (piece : Piece) (rows : Selection) → definitions s.tables ≡ definitions_of l → SaysOne piece (λ statement. SelectsRows s statement rows) → HasShortRows seen l (read piece) → HasShortFiles seen l rows
+select_short seen l s piece rows are (statement, says, in_order, selects) short = by statement selects (subst (HasShortRows seen l) says short)
+  where
+    by : (statement : Statement) → SelectsRows s statement rows → HasShortRows seen l (Says statement) → HasShortFiles seen l rows
+    by (Query select) selects short =
+        subst (λ (q : Select). HasShortFiles seen l (record { table = rows.table; select = q })) (sym selects.select_is)
+        (subst (HasShortTable seen l select) (ap (number_of_table select.table) (sym are) ∙ ap (λ (q : Select). number_of_table q.table (definitions s.tables)) (sym selects.select_is) ∙ selects.has.named) short)
+    by statement selects short = absurd selects
+
 pub select_within : (a b : View) (store : StoreInMemory) (s : State) (piece : Piece) (rows : Selection) → definitions s.tables ≡ store.definitions → SaysOne piece (λ statement. SelectsRows s statement rows)
-    → ((l : Layout) → Serves a store l → b.reads ≤ a.reads + selection_reads a.files l rows) → (w : World) → ServesWorld a store w → b.reads ≤ a.reads + select_reads a.files w.layout (read piece)
-select_within a b store s piece rows are says costs w serves = subst (λ (n : ℕ). b.reads ≤ a.reads + n) (sym (select_costs a.files w.layout s piece rows (are ∙ serves.definitions) says)) (costs w.layout serves)
+    → ((l : Layout) → Serves a store l → HasShortFiles a.files l rows → b.reads ≤ a.reads + selection_reads a.files l rows)
+    → (w : World) → ServesWorld a store w → HasShortRows a.files w.layout (read piece) → b.reads ≤ a.reads + select_reads a.files w.layout (read piece)
+select_within a b store s piece rows are says costs w serves short =
+    subst (λ (n : ℕ). b.reads ≤ a.reads + n) (sym (select_costs a.files w.layout s piece rows (are ∙ serves.definitions) says)) (costs w.layout serves (select_short a.files w.layout s piece rows (are ∙ serves.definitions) says short))
 
 none_refused : (o : Option Refusal) → Done ≡ outcome_of o → o ≡ None
 none_refused None done = refl
@@ -303,7 +315,7 @@ module _ (kinds : List Class) (a b : View) (sound : IsSound a) (old : StoreInMem
 
   pub select_answered : {T : Type 0} (x : T) (reply : List ℕ) → CanChange a old → ((w : World) → ServesWorld a old w → (step (state_of w.layout) piece).reply ≡ reply)
       → ((s : State) → IsStateOf (known_in_memory old) s → ((step s piece).state ≡ s) × (Done ≡ outcome_of (step s piece).refused))
-      → ((w : World) → ServesWorld a old w → b.reads ≤ a.reads + select_reads a.files w.layout (read piece))
+      → ((w : World) → ServesWorld a old w → HasShortRows a.files w.layout (read piece) → b.reads ≤ a.reads + select_reads a.files w.layout (read piece))
       → StepCauses {T = T} a b (Ok x) → StepPromises kinds piece a b old old reply (Ok Done)
   select_answered x reply ready replied steps_to costs causes = record {
     answers = λ w serves. record {
@@ -336,7 +348,7 @@ module _ (kinds : List Class) (a b : View) (sound : IsSound a) (old : StoreInMem
   }
 
   pub select_failed : {T : Type 0} (e : StepFault) (reply : List ℕ) → ((folder : Folder) → b.files ≡ Some folder → OnStepDamage (FolderShows folder) e) → ((l : Layout) → Serves a old l → OnStepDamage (λ _. ⊥) e) → OnSpent (λ _. ⊥) e → OnMissing (λ _. ⊥) e
-      → ((w : World) → ServesWorld a old w → b.reads ≤ a.reads + select_reads a.files w.layout (read piece))
+      → ((w : World) → ServesWorld a old w → HasShortRows a.files w.layout (read piece) → b.reads ≤ a.reads + select_reads a.files w.layout (read piece))
       → StepCauses {T = T} a b (Err e) → StepPromises kinds piece a b old old reply (Err e)
   select_failed e reply damaged undamaged unspent present costs causes = record {
     answers = tt;

@@ -3,7 +3,11 @@ use Rattle.std.proofs.Common.{◌≡◌, ℕ, zero, suc, ◌+◌, ◌-◌, ◌<�
 use Rattle.std.proofs.lemmas.Bool.Decides.{nat_tests}
 use Rattle.std.specs.List.{AllByRecursion}
 use Rattle.sasi_types.specs.declared.partitioner.Partitioner.{Partitioner}
+use Rattle.sasi_cells.specs.declared.mutation.Mutation.{Mutation}
+use Rattle.sasi_host.specs.Names.{Folder}
+use Rattle.sasi_layout.specs.Layout.{TableParts, bare_table}
 use Rattle.sasi_layout.specs.Serving.{AreTablesReady, IsTableReady, TableInMemory}
+use Rattle.sasi_layout.specs.Shape.{AreShaped, HasFile}
 use Rattle.sasi_manifest.specs.Listings.{at_number}
 use Rattle.sasi_manifest.proofs.Replacing.{At, unchanged}
 use Rattle.sasi_model.specs.State.{Definition}
@@ -195,3 +199,11 @@ opened_tables listing xs maps = record {
   numbers = opened_numbers listing.partitioner listing.floor listing.last 1 listing.tables xs maps;
   under = opened_under listing.partitioner listing.floor listing.last 1 listing.tables xs maps;
 }
+
+-- ---- the files of a table
+
+-- where the folder has the shape of a layout, it has the files of each table
+pub shaped_at : (folder : Folder) (p : Partitioner) (floor n : ℕ) (logs : List (List Mutation)) (ts : List TableParts) (at : ℕ) (t : TableParts) → AreShaped folder p floor n logs (map bare_table ts) → slice_get ts at ≡ Some t → AllByRecursion (HasFile folder p t.definition t.numbers) t.files
+shaped_at folder p floor n logs [] at t are there = cc
+shaped_at folder p floor n logs (x ∷ ts) zero t are there = let same : x ≡ t = cc in subst (λ (t : TableParts). AllByRecursion (HasFile folder p t.definition t.numbers) t.files) same are.0.files
+shaped_at folder p floor n logs (x ∷ ts) (suc at) t are there = shaped_at folder p floor (suc n) logs ts at t are.1 there

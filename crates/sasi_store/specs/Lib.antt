@@ -14,3 +14,4 @@ pub mod Floors
 pub mod Numbers
 pub mod FlushDraws
 pub mod Flushing
+pub mod ViewParts

@@ -1,43 +1,26 @@
--- The rows of a table that a SELECT prints.
-use Rattle.std.specs.Prelude.{◌≡◌, ℕ, List, [], ◌∷◌, slice_get, Option, None, Some}
-use Rattle.std.specs.List.{AllByRecursion}
-use Rattle.sasi_types.specs.declared.column.ColumnType.{ColumnType}
-use Rattle.sasi_types.specs.declared.decorated_key.DecoratedKey.{DecoratedKey}
+-- The rows that a reader gives, as a SELECT prints them.
+use Rattle.std.specs.Prelude.{◌≡◌, ◌++◌, ℕ, Bool, List, map, Option, is_some}
+use Rattle.std.specs.List.{flat_map}
+use Rattle.std.specs.Option.{option_to_list}
 use Rattle.sasi_types.specs.declared.value.Value.{Value}
-use Rattle.sasi_cells.specs.Rows.{IsStored}
-use Rattle.sasi_host.specs.Names.{Folder}
+use Rattle.sasi_cells.specs.Rows.{picked_value}
+use Rattle.sasi_cells.specs.declared.picked.Picked.{Picked}
+use Rattle.sasi_model.specs.Abbreviations.{row_line}
 use Rattle.sasi_model.specs.Cells.{Partition}
-use Rattle.sasi_model.specs.Filters.{limited}
-use Rattle.sasi_memtable.specs.MemtableView.{MemtableView}
-use Rattle.sasi_machine.specs.TableRows.{AreStored, rows_picked}
-use Rattle.sasi_machine.specs.Where.{HasTexts, where_of}
-use Rattle.sasi_machine.specs.declared.row_query.RowQuery.{RowQuery}
-use Rattle.sasi_manifest.specs.declared.files.ListedFile.{ListedFile}
-use Rattle.sasi_merge.specs.Streams.{Entries}
-use Rattle.sasi_scan.specs.Scanning.{IsScanOf, ScanView}
+use Rattle.sasi_model.specs.Lines.{rows_lines}
+use Rattle.sasi_plan.specs.Answers.{GivesNext}
 
--- what a partition has to be, so that its row can be tested and printed: its key is a value of the type, and its texts are UTF-8
-pub record IsPrintable (kind : ColumnType) (key : List ℕ) (part : Partition) : Type 0 where
-  pub stored : IsStored kind key
-  pub texts : HasTexts part
+-- the values that are picked of a row, which is a key with what all parts have of it
+abbrev pub row_picked : Picked → List ℕ × Partition → List (Option Value)
+row_picked picked row = map (picked_value picked.key row.0 row.1) picked.columns
 
--- the scan is one of a table whose keys have this type, in its files and in memory
-pub record ScansTable (seen : Option Folder) (kind : ColumnType) (maps : List MemtableView) (scan : ScanView) : Type 0 where
-  pub files : List ListedFile
-  pub types : List ColumnType
-  pub is_of : IsScanOf seen files types maps scan
-  pub key : slice_get types 0 ≡ Some kind
-  pub stored : AllByRecursion (λ (m : MemtableView). AreStored kind m.partitions) maps
+-- the lines of rows, and of their number
+abbrev pub picked_lines : Picked → List (List ℕ × Partition) → List ℕ
+picked_lines picked rows = rows_lines (map (row_picked picked) rows)
 
--- the rows of these partitions that the WHERE asks for
-abbrev pub rows_of : RowQuery → Entries → List (List (Option Value))
-rows_of query entries = rows_picked query.picked.key query.picked.columns (where_of query.filter) entries
-
--- of these the first, up to the LIMIT
-abbrev pub asked_rows : RowQuery → Entries → List (List (Option Value))
-asked_rows query entries = limited query.limit (rows_of query entries)
-
--- the entry of the key, if something was found of it
-abbrev pub entry_found : DecoratedKey → Option Partition → Entries
-entry_found key None = []
-entry_found key (Some part) = (key, part) ∷ []
+-- **The first of the rows that are left is printed**, and the others are left; none is printed exactly where none is left.
+pub record PrintsNext (picked : Picked) (Left Others : List (List ℕ × Partition) → Type 0) (reply_old reply_new : List ℕ) (printed : Bool) : Type 0 where
+  pub found : Option (List ℕ × Partition)
+  pub printed_is : printed ≡ is_some found
+  pub reply_is : reply_new ≡ reply_old ++ flat_map row_line (map (row_picked picked) (option_to_list found))
+  pub gives : (rows : List (List ℕ × Partition)) → Left rows → GivesNext Others rows found

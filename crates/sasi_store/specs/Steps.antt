@@ -19,7 +19,7 @@ use Rattle.sasi_model.specs.State.{State}
 use Rattle.sasi_recover.specs.OpenedFolder.{AnyFolderChange}
 use Rattle.sasi_store.specs.Answers.{Answered, AnsweredButRows}
 use Rattle.sasi_store.specs.Faults.{OnMissing, OnSpent, OnStepDamage, StepCauses}
-use Rattle.sasi_store.specs.Selects.{select_reads}
+use Rattle.sasi_store.specs.Selects.{HasShortRows, select_reads}
 use Rattle.sasi_store.specs.declared.fault.StepFault.{StepFault}
 
 -- over analyzers of these classes
@@ -38,6 +38,6 @@ pub record StepPromises (kinds : List Class) (piece : Piece) (a b : View) (old n
   pub undamaged : (w : World) → ServesWorld a old w → IfErr result (OnStepDamage (λ _. ⊥))
   pub reads_only : asks (known_in_memory old) piece ≡ NoChange → Changes Same a b
   pub unread : (IsQuery (read piece) → ⊥) → b.reads ≡ a.reads
-  pub reads : (w : World) → ServesWorld a old w → b.reads ≤ a.reads + select_reads a.files w.layout (read piece)
+  pub reads : (w : World) → ServesWorld a old w → HasShortRows a.files w.layout (read piece) → b.reads ≤ a.reads + select_reads a.files w.layout (read piece)
   pub changes : Changes AnyFolderChange a b
   pub causes : StepCauses a b result

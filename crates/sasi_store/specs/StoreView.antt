@@ -1,5 +1,5 @@
 -- What contracts see of a store.
-use Rattle.std.specs.Prelude.{◌≡◌, ℕ, Bool, IsTrue, List, map}
+use Rattle.std.specs.Prelude.{◌≡◌, ℕ, Bool, IsTrue, List, [], map}
 use Rattle.std.specs.List.{AllByRecursion}
 use Rattle.sasi_types.specs.declared.partitioner.Partitioner.{Partitioner}
 use Rattle.sasi_host.specs.View.{View}
@@ -8,6 +8,8 @@ use Rattle.sasi_layout.specs.Serving.{StoreInMemory}
 use Rattle.sasi_recover.specs.OpenedFolder.{opened_table, used_numbers}
 use Rattle.sasi_recover.specs.declared.opened.TableMap.{TableMap}
 use Rattle.sasi_schema.specs.Numbers.{RisesFrom}
+use Rattle.sasi_views.specs.Books.{Book}
+use Rattle.sasi_views.specs.Kept.{IsCounted}
 use Rattle.sasi_store.specs.Held.{AreMapped, HasRegularIndexes, Subject, held_of, subjects_of}
 use Rattle.sasi_store.specs.declared.parts.Parts.{Parts}
 
@@ -23,6 +25,12 @@ pub record StoreView : Type 0 where
 pub record IsReady (v : View) (store : StoreView) : Type 0 where
   pub memory : layout.CanChange v store.memory
   pub usable : IsTrue store.usable
+
+-- ---- views
+
+-- no view is out, and none is counted
+abbrev pub HasNoneOut : Book → Type 0
+HasNoneOut book = IsCounted book []
 
 -- ---- by its parts
 

@@ -1,6 +1,7 @@
 //! A store: it answers the pieces of a script over a folder, keeps memtables of what isn't in a data file yet, and logs each
-//! change before it is applied. It stands on sasi_recover, which opens the folder, and on sasi_machine, which prepares pieces,
-//! and promises the model's reply for each layout that the folder may have, and what a crash leaves at each moment.
+//! change before it is applied. It stands on sasi_recover, which opens the folder, on sasi_machine, which prepares pieces, and on
+//! sasi_plan, which reads the rows of a SELECT, and promises the model's reply for each layout that the folder may have, and what a
+//! crash leaves at each moment.
 #![tactic(auto)]
 
 mod create;
@@ -10,14 +11,14 @@ mod flush;
 mod flush_draws;
 mod flush_file;
 mod flush_table;
-mod key_lookup;
 mod old_segments;
 mod parts;
-mod query;
+mod rows;
 mod select;
 mod step;
 mod store;
 mod table_maps;
+mod view_parts;
 mod write;
 
 pub use fault::StepFault;

@@ -7,7 +7,7 @@ ghost use Rattle.sasi_model.specs.Pieces.{piece_of};
 ghost use Rattle.sasi_model.specs.State.{State};
 ghost use Rattle.sasi_store.specs.Answers.{NeedsNoFile};
 ghost use Rattle.sasi_store.specs.Steps.{StepPromises};
-ghost use Rattle.sasi_store.specs.StoreView.{IsOfParts, memory_of};
+ghost use Rattle.sasi_store.specs.StoreView.{HasNoneOut, IsOfParts, memory_of};
 
 use crate::StepFault;
 use crate::create::create;
@@ -20,10 +20,12 @@ use sasi_analyzers::Kit;
 use sasi_host::Host;
 use sasi_machine::{Outcome, Prepared, Reply, prepare};
 use sasi_types::{PieceEnd, TableNumber};
+use sasi_views::ViewBook;
 
 /// Answers a piece: prepares it, and makes its moves.
 pub fn step<H: Host>(
     parts: &mut Parts,
+    views: &mut ViewBook,
     host: &mut H,
     kit: &mut Kit,
     piece: &[u8],
@@ -33,10 +35,12 @@ pub fn step<H: Host>(
     requires ready { CanChange (H.view host.old) (memory_of parts.old) }
     requires parts { IsOfParts parts.old }
     requires classes { KnowsClasses (map (λ b. kind (b.vtable, b.value)) kit.old.objects.items) (memory_of parts.old) }
+    requires none_out { HasNoneOut views.old }
     ensures kinds { map (λ b. kind (b.vtable, b.value)) kit.new.objects.items ≡ map (λ b. kind (b.vtable, b.value)) kit.old.objects.items }
     ensures steps { StepPromises (map (λ b. kind (b.vtable, b.value)) kit.old.objects.items) (piece_of end piece.now) (H.view host.old) (H.view host.new) (memory_of parts.old) (memory_of parts.new) reply.new result }
     ensures no_file_call { (s : State) → IsStateOf (known_in_memory (memory_of parts.old)) s → NeedsNoFile s (piece_of end piece.now) → host.new ≡ host.old }
     ensures parts { OnOk result (IsOfParts parts.new) }
+    ensures back { HasNoneOut views.new }
 {
     match prepare(
         parts.alloc,
@@ -69,7 +73,7 @@ pub fn step<H: Host>(
             Ok(Outcome::Done)
         }
         Prepared::Select(rows) => {
-            select(parts, host, kit, &rows, reply)?;
+            select(parts, views, host, kit, &rows, reply)?;
             Ok(Outcome::Done)
         }
     }

@@ -23,7 +23,7 @@ ghost use Rattle.sasi_recover.specs.OpenedFolder.{AnyFolderChange};
 ghost use Rattle.sasi_recover.specs.Promises.{OpensSafely, ReportsTruly};
 ghost use Rattle.sasi_store.specs.Answers.{Answered, AnsweredButRows, NeedsNoFile};
 ghost use Rattle.sasi_store.specs.Faults.{OnMissing as OnMissingClass, OnSpent, OnStepDamage, StepCauses};
-ghost use Rattle.sasi_store.specs.Selects.{select_reads};
+ghost use Rattle.sasi_store.specs.Selects.{HasShortRows, select_reads};
 ghost use Rattle.sasi_store.specs.StoreView.{IsReady};
 
 use crate::StepFault;
@@ -34,6 +34,7 @@ use sasi_host::{Failed, Host};
 use sasi_machine::{Outcome, Reply};
 use sasi_recover::OpenFault;
 use sasi_types::{Partitioner, PieceEnd};
+use sasi_views::ViewBook;
 use std::alloc::Global;
 use std::marker::Model;
 
@@ -41,6 +42,7 @@ use std::marker::Model;
 #[derive(Drop)]
 pub struct Store {
     parts: Parts,
+    views: ViewBook,
     steps: u64,
     usable: bool,
 }
@@ -48,7 +50,7 @@ pub struct Store {
 impl Model for Store {
     ghost use Rattle.std.specs.Prelude.{IsTrue};
     ghost use Rattle.sasi_store.specs.Codes.{coded_store};
-    ghost use Rattle.sasi_store.specs.StoreView.{IsOfParts, StoreView, memory_of};
+    ghost use Rattle.sasi_store.specs.StoreView.{HasNoneOut, IsOfParts, StoreView, memory_of};
 
     ghost Value = { StoreView };
 
@@ -56,7 +58,7 @@ impl Model for Store {
 
     ghost view = { λ a. record { memory = memory_of a.parts; steps = a.steps; usable = a.usable } };
 
-    ghost invariant = { λ a. IsTrue a.usable → IsOfParts a.parts };
+    ghost invariant = { λ a. (IsTrue a.usable → IsOfParts a.parts) × HasNoneOut a.views };
 }
 
 impl Store {
@@ -89,6 +91,7 @@ impl Store {
         };
         Ok(Store {
             parts,
+            views: ViewBook::new(alloc),
             steps: 0,
             usable: true,
         })
@@ -122,7 +125,8 @@ impl Store {
         ensures no_file_call { (s : State) → IsStateOf (known_in_memory self.old.memory) s → NeedsNoFile s (piece_of end piece.now) → host.new ≡ host.old }
         ensures reads_only { asks (known_in_memory self.old.memory) (piece_of end piece.now) ≡ NoChange → Changes Same (H.view host.old) (H.view host.new) }
         ensures unread { (IsQuery (read (piece_of end piece.now)) → ⊥) → (H.view host.new).reads ≡ (H.view host.old).reads }
-        ensures reads { (w : World) → ServesWorld (H.view host.old) self.old.memory w → (H.view host.new).reads ≤ (H.view host.old).reads + select_reads (H.view host.old).files w.layout (read (piece_of end piece.now)) }
+        // The bound on what a SELECT reads supposes files of at most 2^40 bytes where a relation is on an indexed column.
+        ensures reads { (w : World) → ServesWorld (H.view host.old) self.old.memory w → HasShortRows (H.view host.old).files w.layout (read (piece_of end piece.now)) → (H.view host.new).reads ≤ (H.view host.old).reads + select_reads (H.view host.old).files w.layout (read (piece_of end piece.now)) }
         ensures changes { Changes AnyFolderChange (H.view host.old) (H.view host.new) }
         ensures usable { self.new.usable ≡ is_ok result }
         ensures steps { self.new.steps ≡ counted self.old.steps }
@@ -130,7 +134,15 @@ impl Store {
     {
         self.steps = self.steps.saturating_add(1);
         self.usable = false;
-        let outcome = step(&mut self.parts, host, kit, piece, end, reply)?;
+        let outcome = step(
+            &mut self.parts,
+            &mut self.views,
+            host,
+            kit,
+            piece,
+            end,
+            reply,
+        )?;
         self.usable = true;
         Ok(outcome)
     }

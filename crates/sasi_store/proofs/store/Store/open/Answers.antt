@@ -5,6 +5,7 @@ use Rattle.sasi_layout.specs.Serving.{Serves, StoreInMemory, known_in_memory}
 use Rattle.sasi_machine.specs.Prepares.{IsStateOf}
 use Rattle.sasi_model.specs.State.{State}
 use Rattle.sasi_recover.specs.OpenedFolder.{opened_store}
+use Rattle.sasi_views.proofs.BookLaws.{new_counted}
 use Rattle.sasi_store.proofs.Known.{opened_state, reports_on}
 use Rattle.sasi_store.proofs.store.Store.open.Goals as goal
 
@@ -14,7 +15,7 @@ returns-in_err-opened-clause-reports g c =
     rw (p.1, p.2) (reports_on c.args.asked (map (λ b. (goal.Analyzer-dyn g (b.vtable, b.value)).kind b.value) c.args.kit.now.objects.items) (g.H.Host.view c.args.host.now) c.in_err-opened.field-0.0 c.in_err-opened.ensures.reports)
 
 pub invariant_of-result : goal.invariant_of-result
-invariant_of-result g c usable = c.in-Ok.ensures.parts
+invariant_of-result g c = (λ usable. c.in-Ok.ensures.parts, new_counted c.new.result c.new.ensures)
 
 pub returns-clause-serves : goal.returns-clause-serves
 returns-clause-serves g c folder l files shape =

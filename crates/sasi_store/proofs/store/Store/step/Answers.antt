@@ -5,7 +5,7 @@ use Rattle.sasi_layout.specs.Between.{Between}
 use Rattle.sasi_layout.specs.Worlds.{ServesWorld, World, steps}
 use Rattle.sasi_model.specs.Pieces.{piece_of}
 use Rattle.sasi_model.specs.Refusals.{read}
-use Rattle.sasi_store.specs.Selects.{select_reads}
+use Rattle.sasi_store.specs.Selects.{HasShortRows, select_reads}
 use Rattle.sasi_store.specs.StoreView.{StoreView}
 use Rattle.sasi_store.proofs.store.Store.step.Goals as goal
 
@@ -27,4 +27,4 @@ returns-in_err-outcome-clause-reads g c =
     let a = g.H.Host.view c.args.host.now in
     let b = g.H.Host.view c.step.new.host in
     let piece = piece_of c.args.end c.args.piece.now in
-    subst (λ (store : StoreView). (w : World) → ServesWorld a store.memory w → b.reads ≤ a.reads + select_reads a.files w.layout (read piece)) c.self.view_is c.step.ensures.steps.reads
+    subst (λ (store : StoreView). (w : World) → ServesWorld a store.memory w → HasShortRows a.files w.layout (read piece) → b.reads ≤ a.reads + select_reads a.files w.layout (read piece)) c.self.view_is c.step.ensures.steps.reads

@@ -1,0 +1,207 @@
+-- Damage that a reader shows in a view of the current parts of a table is damage of the folder.
+use Rattle.std.proofs.Common.{◌≡◌, ◌-◌, ◌<◌, ◌||◌, ◌&&◌, Bool, true, false, nat_eq, is_some, IsSome, ℕ, zero, suc, List, [], ◌∷◌, length, map, slice_get, slice_index_or, Option, None, Some, inl, inr, refl, sym, ap, subst, ◌∙◌, arith}
+use Rattle.std.specs.Prelude.{Contains}
+use Rattle.std.proofs.lemmas.Bool.{or_left, or_right}
+use Rattle.std.proofs.lemmas.Bool.Decides.{nat_tests}
+use Rattle.std.specs.FinMap.{get}
+use Rattle.std.specs.List.{AllByRecursion, list_any}
+use Rattle.std.specs.Option.{option_map_or}
+use Rattle.sasi_types.specs.declared.column.ColumnType.{ColumnType}
+use Rattle.sasi_dataread.specs.Damages.{ShowsDataFile, in_tree, inside, opened_by, outside}
+use Rattle.sasi_hits.specs.KeyTrees as keys
+use Rattle.sasi_hits.specs.KeyTrees.{ShowsKeyTree}
+use Rattle.sasi_lookup.specs.Files.{FileShows}
+use Rattle.sasi_folder.specs.Damages as folders
+use Rattle.sasi_folder.specs.Damages.{FolderShows, broken_content, broken_ends, broken_file, broken_index}
+use Rattle.sasi_folder.specs.FolderContents.{IsSealed}
+use Rattle.sasi_host.specs.declared.damage.Damage.{Damage}
+use Rattle.sasi_host.specs.declared.name.FileName.{FileName}
+use Rattle.sasi_host.specs.declared.name.Kind.TheVariants.{Data}
+use Rattle.sasi_host.specs.Names.{Bytes, Folder, data_name, name_eq, rank, seal_name}
+use Rattle.sasi_host.specs.View.{IsSound, View, contents_in}
+use Rattle.sasi_layout.proofs.FileNameLaws.{data_named, have_name, name_same, other_kind}
+use Rattle.sasi_layout.proofs.KeptLaws.{keeps_data, keeps_seal}
+use Rattle.sasi_layout.proofs.Trails.{manifest_each}
+use Rattle.sasi_layout.specs.Kept.{Kept, is_kept}
+use Rattle.sasi_layout.specs.Serving.{CanChange, kept_by}
+use Rattle.sasi_machine.specs.declared.prepared.Selection.{Selection}
+use Rattle.sasi_manifest.specs.declared.files.ListedFile.{ListedFile}
+use Rattle.sasi_manifest.specs.declared.files.PartNumber.{PartNumber}
+use Rattle.sasi_manifest.specs.declared.listing.Listing.{Listing}
+use Rattle.sasi_manifest.specs.Edits.{files_of}
+use Rattle.sasi_manifest.specs.FileNames.{has_name}
+use Rattle.sasi_manifest.specs.ListedDefinition.{ListedDefinition}
+use Rattle.sasi_manifest.specs.ListedFiles.{has_file, index_name, is_name_of}
+use Rattle.sasi_manifest.specs.ListedTables.{listed}
+use Rattle.sasi_scan.specs.Parts.{ShowsListed}
+use Rattle.sasi_engine.specs.Plans.{IsShownIn, is_file_of, of_data, of_hits, of_index, of_lookup}
+use Rattle.sasi_plan.specs.Plans.{PlanView}
+use Rattle.sasi_plan.specs.Reading.{PendingShows}
+use Rattle.sasi_store.specs.Selects.{IsPlanFor}
+use Rattle.sasi_store.specs.StoreView.{memory_of}
+use Rattle.sasi_store.specs.ViewParts.{current_parts, memtable_number}
+use Rattle.sasi_store.specs.declared.parts.Parts.{Parts}
+use Rattle.sasi_store.proofs.SelectWorlds.{files_back}
+use Rattle.sasi_store.proofs.TablesInMemory.{there_inside}
+use Rattle.sasi_store.proofs.ViewFiles.{view_files, view_listed, view_there}
+
+-- ---- lists
+
+all_then : {A : Type 0} (P Q : A → Type 0) → ((x : A) → P x → Q x) → (xs : List A) → AllByRecursion P xs → AllByRecursion Q xs
+all_then P Q f [] all = tt
+all_then P Q f (x ∷ xs) all = (f x all.0, all_then P Q f xs all.1)
+
+all_within : {A : Type 0} (P : A → Type 0) (xs : List A) (x : A) (k : ℕ) → k < length xs → slice_index_or xs k x ≡ x → AllByRecursion P xs → P x
+all_within P [] x k below is all = absurd (omega (arith, below))
+all_within P (y ∷ xs) x zero below is all = subst P is all.0
+all_within P (y ∷ xs) x (suc k) below is all = all_within P xs x k (omega (arith, below)) is all.1
+
+index_there : {A : Type 0} (xs : List A) (k : ℕ) (x : A) → slice_get xs k ≡ Some x → slice_index_or xs k x ≡ x
+index_there [] k x there = cc
+index_there (y ∷ xs) zero x there = let same : y ≡ x = cc in same
+index_there (y ∷ xs) (suc k) x there = index_there xs k x there
+
+some_in : {A : Type 0} (o : Option A) → is_some o ≡ true → (x : A) × (o ≡ Some x)
+some_in None some = cc
+some_in (Some x) some = (x, refl)
+
+none_in : {A : Type 0} (o : Option A) → is_some o ≡ false → o ≡ None
+none_in None none = refl
+none_in (Some x) none = cc
+
+found_in : {A : Type 0} (o : Option A) → IsSome o → (x : A) × (o ≡ Some x)
+found_in None some = cc
+found_in (Some x) some = (x, refl)
+
+-- ---- listed files
+
+-- each file has its number
+has_each : (fs : List ListedFile) → AllByRecursion (λ (f : ListedFile). has_file fs f.number ≡ true) fs
+has_each [] = tt
+has_each (f ∷ fs) =
+    let own : nat_eq f.number f.number ≡ true = grind (arith, nat_tests) in
+    (or_left (nat_eq f.number f.number) (has_file fs f.number) own, all_then (λ (g : ListedFile). has_file fs g.number ≡ true) (λ (g : ListedFile). has_file (f ∷ fs) g.number ≡ true) (λ g is. or_right (nat_eq g.number f.number) (has_file fs g.number) is) fs (has_each fs))
+
+listed_any : (tables : List ListedDefinition) (at : ℕ) (t : ListedDefinition) → slice_get tables at ≡ Some t → (n : ℕ) → has_file t.files n ≡ true → list_any (λ t. has_file t.files n) tables ≡ true
+listed_any [] at t there n has = cc
+listed_any (x ∷ tables) zero t there n has = let same : x ≡ t = cc in or_left (has_file x.files n) (list_any (λ t. has_file t.files n) tables) (ap (λ (d : ListedDefinition). has_file d.files n) same ∙ has)
+listed_any (x ∷ tables) (suc at) t there n has = or_right (has_file x.files n) (list_any (λ t. has_file t.files n) tables) (listed_any tables at t there n has)
+
+-- no seal with a higher number is kept
+unkept_seal : (k : Kept) (other : ℕ) → k.manifest < other → is_kept k (seal_name other) ≡ false
+unkept_seal k other above = by (nat_eq other k.manifest) (has_name k.listing.tables (seal_name other)) (grind (arith, nat_tests, above)) (other_kind (seal_name other) k.listing.tables (omega arith))
+  where
+    by : (a b : Bool) → a ≡ false → b ≡ false → ((((true && a) && true) && true) || b) ≡ false
+    by true b apart unlisted = cc
+    by false b apart unlisted = unlisted
+
+-- ---- the file of a name
+
+-- the listed file whose name it is
+record IsNamedBy (fs : List ListedFile) (name : FileName) : Type 0 where
+  pub file : ListedFile
+  pub is_in : Contains fs file
+  pub named : is_name_of file name ≡ true
+
+named_by : (fs : List ListedFile) (name : FileName) → have_name fs name ≡ true → IsNamedBy fs name
+named_by [] name is = cc
+named_by (f ∷ fs) name is = by (is_name_of f name) refl is (named_by fs name)
+  where
+    by : (b : Bool) → is_name_of f name ≡ b → (b || have_name fs name) ≡ true → (have_name fs name ≡ true → IsNamedBy fs name) → IsNamedBy (f ∷ fs) name
+    by true own is later = record { file = f; is_in = (0, omega arith, refl); named = own }
+    by false other is later = (let rest = later is in record { file = rest.file; is_in = (suc rest.is_in.0, omega (arith, rest.is_in.1), rest.is_in.2); named = rest.named })
+
+-- no index file is called as a data file
+no_index : (name : FileName) → name.kind ≡ Data → (number : ℕ) (ps : List PartNumber) → list_any (name_eq name) (map (index_name number) ps) ≡ false
+no_index name kind number [] = refl
+no_index name kind number (p ∷ ps) =
+    let is : rank name.kind ≡ 3 = ap rank kind in
+    let apart : name_eq name (index_name number p) ≡ false = grind (arith, nat_tests, is) in
+    ap (λ b. b || list_any (name_eq name) (map (index_name number) ps)) apart ∙ no_index name kind number ps
+
+-- a data file of this name has this number
+data_by : (f : ListedFile) (name : FileName) → name.kind ≡ Data → is_name_of f name ≡ true → name ≡ data_name f.number
+data_by f name kind named = by (name_eq name (data_name f.number)) refl named
+  where
+    by : (b : Bool) → name_eq name (data_name f.number) ≡ b → (b || list_any (name_eq name) (map (index_name f.number) f.parts)) ≡ true → name ≡ data_name f.number
+    by true is named = name_same name (data_name f.number) is
+    by false other named = let no : false ≡ true = sym (no_index name kind f.number f.parts) ∙ named in cc
+
+-- damage of the keys is damage of the file
+keys_show : (types : List ColumnType) (file : FileName) (bytes : Bytes) (damage : Damage) → ShowsKeyTree file bytes damage → ShowsDataFile types file bytes damage
+keys_show types file bytes damage (keys.outside shown) = outside shown
+keys_show types file bytes damage (keys.inside numbers has shown) = inside numbers has (in_tree shown)
+
+-- ---- a view
+
+module _ (v : View) (sound : IsSound v) (p : Parts) (ready : CanChange v (memory_of p)) (rows : Selection) (plan : PlanView) (is : IsPlanFor p rows plan) (folder : Folder) (now : v.files ≡ Some folder) where
+  abbrev listing : Listing
+  listing = p.manifest.listing
+
+  abbrev at : ℕ
+  at = rows.table - 1
+
+  abbrev files : List ListedFile
+  files = files_of listing.tables rows.table
+
+  files_are : files ≡ is.row.files
+  files_are = ap (λ (o : Option ListedDefinition). option_map_or (λ (x : ListedDefinition). x.files) o []) is.there
+
+  sealed : IsSealed folder p.manifest.number
+  sealed = record {
+    there = ready.kept folder now (seal_name p.manifest.number) ∙ keeps_seal (kept_by (memory_of p));
+    highest = λ other above. none_in (get folder (seal_name other)) (ready.kept folder now (seal_name other) ∙ unkept_seal (kept_by (memory_of p)) other above);
+  }
+
+  -- damage of a listed file
+  listed_shows : (damage : Damage) → folders.ShowsListedFile folder listing.tables damage → FolderShows folder damage
+  listed_shows damage shown =
+      let stands = ready.stands (ap (λ (o : Option Folder). is_some o) now) in
+      let manifest = manifest_each v p.manifest.number p.manifest.at listing stands in
+      inr (record {
+        number = p.manifest.number;
+        sealed = sealed;
+        shows = broken_file stands.at_end.bytes listing (manifest.0 folder (sound.reads folder now)) manifest.1 shown;
+      })
+
+  -- of a data file
+  data_shows : (damage : Damage) → ShowsListed v.files files plan.types damage → FolderShows folder damage
+  data_shows damage shows =
+      let n = shows.file.number in
+      let contained : Contains is.row.files shows.file = subst (λ (fs : List ListedFile). Contains fs shows.file) files_are shows.listed in
+      let holds : has_file is.row.files n ≡ true = all_within (λ (f : ListedFile). has_file is.row.files f.number ≡ true) is.row.files shows.file contained.0 contained.1 contained.2 (has_each is.row.files) in
+      let is_in : list_any (λ t. has_file t.files n) listing.tables ≡ true = listed_any listing.tables at (listed is.row) is.there n holds in
+      let bytes = some_in (get folder (data_name n)) (ready.kept folder now (data_name n) ∙ keeps_data (kept_by (memory_of p)) n ∙ is_in) in
+      listed_shows damage (by n bytes.0 is_in bytes.1 holds (shows.shown bytes.0 (ap (λ (o : Option Folder). contents_in o (data_name n)) now ∙ bytes.1)))
+    where
+      by : (n : ℕ) (bytes : Bytes) → list_any (λ t. has_file t.files n) listing.tables ≡ true → get folder (data_name n) ≡ Some bytes → has_file is.row.files n ≡ true → ShowsDataFile plan.types (data_name n) bytes damage → folders.ShowsListedFile folder listing.tables damage
+      by n bytes is_in there holds (outside shown) = broken_ends (data_name n) bytes (data_named n listing.tables ∙ is_in) there shown
+      by n bytes is_in there holds (inside numbers parts shown) = broken_content n bytes (opened_by (data_name n) plan.types numbers) there (record {
+        table = listed is.row;
+        listed = (at, there_inside listing.tables at (listed is.row) is.there, index_there listing.tables at (listed is.row) is.there);
+        has = holds;
+        named = refl;
+        types = is.types;
+        parts = parts;
+      }) shown
+
+  -- the data file of a name in the view
+  named : (name : FileName) → is_file_of (current_parts p rows.table) name ≡ true → IsNamedBy files name
+  named name is_file = named_by files name (sym (view_files files (memtable_number p.tables.items rows.table) name) ∙ is_file)
+
+  lookup_shows : (damage : Damage) (name : FileName) → name.kind ≡ Data → is_file_of (current_parts p rows.table) name ≡ true → FileShows plan.types name v.files damage → FolderShows folder damage
+  lookup_shows damage name kind is_file shows =
+      let by = named name is_file in
+      data_shows damage (record { file = by.file; listed = by.is_in; shown = subst (λ (n : FileName). FileShows plan.types n v.files damage) (data_by by.file name kind by.named) shows })
+
+  hits_show : (damage : Damage) → IsShownIn (current_parts p rows.table) v.files damage → FolderShows folder damage
+  hits_show damage (of_data name kind is_file shows) = lookup_shows damage name kind is_file (λ bytes there. keys_show plan.types name bytes damage (shows bytes there))
+  hits_show damage (of_index name kind is_file shows) =
+      let there = found_in (get folder name) (subst (λ (o : Option Folder). IsSome o → IsSome (contents_in o name)) now (view_there v p ready rows.table name is_file) refl) in
+      listed_shows damage (broken_index name there.0 (view_listed v p ready rows.table name is_file) kind there.1 (shows there.0 (ap (λ (o : Option Folder). contents_in o name) now ∙ there.1)))
+
+  -- **So is what a source shows.**
+  pub view_shows : (damage : Damage) → PendingShows plan.types (current_parts p rows.table) v.files damage → FolderShows folder damage
+  view_shows damage (inl (of_hits shown)) = hits_show damage shown
+  view_shows damage (inl (of_lookup name kind is_file shows)) = lookup_shows damage name kind is_file shows
+  view_shows damage (inr shows) = data_shows damage (subst (λ (fs : List ListedFile). ShowsListed v.files fs plan.types damage) (files_back files (memtable_number p.tables.items rows.table)) shows)

@@ -1,0 +1,88 @@
+// The rows of a reader, as a SELECT prints them.
+ghost use Rattle.std.specs.Prelude.{◌≡◌, ◌+◌, ◌++◌, ◌≤◌, ℕ, List, IfErr, IfOk, OnOk, map};
+ghost use Rattle.sasi_host.specs.Damages.{OnDamage};
+ghost use Rattle.sasi_host.specs.Disk.{Changes, Same};
+ghost use Rattle.sasi_model.specs.Cells.{Partition as SpecPartition};
+ghost use Rattle.sasi_ranges.specs.StreamCalls.{CanStream, HasStreamed, Spends, StreamFaults};
+ghost use Rattle.sasi_recheck.specs.Rows.{KnowsWhere};
+ghost use Rattle.sasi_scan.specs.Scanning.{ScanCauses};
+ghost use Rattle.sasi_plan.specs.Answers.{ReadsLeft, RowsLeft};
+ghost use Rattle.sasi_store.specs.Printing.{PrintsNext, picked_lines};
+
+use sasi_analyzers::Kit;
+use sasi_host::{Direct, Host, ReadFault};
+use sasi_machine::Reply;
+use sasi_memindex::MapBook;
+use sasi_plan::{PlanCandidates, Reader};
+use sasi_print::{count, picked_row};
+use sasi_recheck::Candidates;
+use std::alloc::Global;
+
+/// Prints the rows that a reader has left, in their order, and their number. Of the table it has one partition in memory at a time.
+pub fn print_rows<H: Host>(
+    alloc: Global,
+    host: &mut H,
+    kit: &mut Kit,
+    maps: &MapBook,
+    reader: &mut Reader,
+    reply: &mut Reply,
+) -> Result<(), ReadFault>
+    requires read { CanStream (λ _. Unit {0}) (⟦<PlanCandidates as Candidates>⟧.opens reader.old.rows.candidates) (H.view host.old) }
+    requires ready { ⟦<PlanCandidates as Candidates>⟧.ready reader.old.rows.candidates (H.view host.old).files maps.now }
+    requires prints { ⟦<PlanCandidates as Candidates>⟧.prints reader.old.rows.candidates (H.view host.old).files maps.now reader.old.picked.key }
+    requires known { KnowsWhere (map (λ b. kind (b.vtable, b.value)) kit.old.objects.items) reader.old.rows.filter }
+    ensures ok { OnOk result ((rows : List (List ℕ × SpecPartition)) → RowsLeft ⟦<PlanCandidates as Candidates>⟧.leaves reader.old.rows (H.view host.old).files maps.now rows → reply.new ≡ reply.old ++ picked_lines reader.old.picked rows) }
+    // It reads no more than that takes, also where it fails.
+    ensures reads { (most : ℕ) → ReadsLeft ⟦<PlanCandidates as Candidates>⟧.leaves ⟦<PlanCandidates as Candidates>⟧.pays reader.old.rows (H.view host.old).files maps.now most → (H.view host.new).reads ≤ (H.view host.old).reads + most }
+    ensures damaged { IfErr result (OnDamage (⟦<PlanCandidates as Candidates>⟧.shows reader.old.rows.candidates (H.view host.old).files)) }
+    ensures undamaged { IfErr result (OnDamage (λ _. (rows : List (List ℕ × SpecPartition)) → RowsLeft ⟦<PlanCandidates as Candidates>⟧.leaves reader.old.rows (H.view host.old).files maps.now rows → ⊥)) }
+    ensures view { reader.new.rows.candidates.view ≡ reader.old.rows.candidates.view }
+    ensures kinds { map (λ b. kind (b.vtable, b.value)) kit.new.objects.items ≡ map (λ b. kind (b.vtable, b.value)) kit.old.objects.items }
+    ensures changes { Changes Same (H.view host.old) (H.view host.new) }
+    ensures causes { ScanCauses (H.view host.old) (H.view host.new) result }
+{
+    let mut rows = 0u64;
+    for _turn in 0..u64::MAX {
+        let printed = print_next(alloc, host, kit, maps, reader, reply)?;
+        if !printed {
+            count(reply, rows)?;
+            return Ok(());
+        }
+        rows += 1;
+    }
+    // The reply has no room for so many rows.
+    Err(ReadFault::OutOfMemory)
+}
+
+// Prints the next row, if one is left, and tells whether one was.
+fn print_next<H: Host>(
+    alloc: Global,
+    host: &mut H,
+    kit: &mut Kit,
+    maps: &MapBook,
+    reader: &mut Reader,
+    reply: &mut Reply,
+) -> Result<bool, ReadFault>
+    requires read { CanStream (λ _. Unit {0}) (⟦<PlanCandidates as Candidates>⟧.opens reader.old.rows.candidates) (H.view host.old) }
+    requires ready { ⟦<PlanCandidates as Candidates>⟧.ready reader.old.rows.candidates (H.view host.old).files maps.now }
+    requires prints { ⟦<PlanCandidates as Candidates>⟧.prints reader.old.rows.candidates (H.view host.old).files maps.now reader.old.picked.key }
+    requires known { KnowsWhere (map (λ b. kind (b.vtable, b.value)) kit.old.objects.items) reader.old.rows.filter }
+    ensures row { IfOk result (PrintsNext reader.old.picked (RowsLeft ⟦<PlanCandidates as Candidates>⟧.leaves reader.old.rows (H.view host.old).files maps.now) (RowsLeft ⟦<PlanCandidates as Candidates>⟧.leaves reader.new.rows (H.view host.new).files maps.now) reply.old reply.new) }
+    ensures reads { (most : ℕ) → ReadsLeft ⟦<PlanCandidates as Candidates>⟧.leaves ⟦<PlanCandidates as Candidates>⟧.pays reader.old.rows (H.view host.old).files maps.now most
+        → Spends (ReadsLeft ⟦<PlanCandidates as Candidates>⟧.leaves ⟦<PlanCandidates as Candidates>⟧.pays reader.new.rows (H.view host.new).files maps.now) most (H.view host.old).reads (H.view host.new).reads result }
+    ensures ready { OnOk result (⟦<PlanCandidates as Candidates>⟧.ready reader.new.rows.candidates (H.view host.new).files maps.now) }
+    ensures prints { OnOk result (⟦<PlanCandidates as Candidates>⟧.prints reader.new.rows.candidates (H.view host.new).files maps.now reader.old.picked.key) }
+    ensures picked { reader.new.picked ≡ reader.old.picked }
+    ensures conditions { reader.new.rows.filter ≡ reader.old.rows.filter }
+    ensures view { reader.new.rows.candidates.view ≡ reader.old.rows.candidates.view }
+    ensures kinds { map (λ b. kind (b.vtable, b.value)) kit.new.objects.items ≡ map (λ b. kind (b.vtable, b.value)) kit.old.objects.items }
+    ensures read { HasStreamed (λ _. Unit {0}) (λ _. ⊥) (λ _. ⊥) (⟦<PlanCandidates as Candidates>⟧.opens reader.old.rows.candidates) (⟦<PlanCandidates as Candidates>⟧.opens reader.new.rows.candidates) (H.view host.old) (H.view host.new) }
+    ensures faults { StreamFaults (⟦<PlanCandidates as Candidates>⟧.shows reader.old.rows.candidates (H.view host.old).files) (⟦<PlanCandidates as Candidates>⟧.shows reader.new.rows.candidates (H.view host.new).files)
+        (RowsLeft ⟦<PlanCandidates as Candidates>⟧.leaves reader.old.rows (H.view host.old).files maps.now) (H.view host.old) (H.view host.new) result }
+{
+    let Some((key, part)) = reader.next_partition(host, &mut Direct, maps, kit)? else {
+        return Ok(false);
+    };
+    picked_row(alloc, reply, &key, &part, reader.picked())?;
+    Ok(true)
+}
