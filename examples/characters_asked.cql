@@ -21,3 +21,10 @@ UPDATE characters SET name = 'EURO SIGN, once EURO-CURRENCY' WHERE letter = '€
 SELECT letter, name FROM characters WHERE name LIKE 'once';
 DELETE FROM characters WHERE letter = '☂';
 SELECT letter, name FROM characters WHERE name LIKE 'umbrel%';
+-- How many rows were looked at: by the words of a name, by two relations, the first of many, and without an index.
+TRACE ON;
+SELECT letter, name FROM characters WHERE name LIKE 'arrow leftwards tail';
+SELECT letter, name FROM characters WHERE category = 'Sc' AND code < 8352 ALLOW FILTERING;
+SELECT letter, name FROM characters WHERE name LIKE 'greek' LIMIT 1;
+SELECT letter FROM characters WHERE letter = '7';
+SELECT letter, name FROM characters LIMIT 2;

@@ -5,7 +5,7 @@ use Rattle.std.proofs.lemmas.Bool.Decides.{leb_tells}
 use Rattle.sasi_types.specs.declared.partitioner.Partitioner.{Partitioner}
 use Rattle.sasi_types.specs.Token.{token_of}
 use Rattle.sasi_model.specs.Conditions.{Condition}
-use Rattle.sasi_model.specs.Filters.{answers}
+use Rattle.sasi_model.specs.Filters.{answers, where_of}
 use Rattle.sasi_body.specs.Body.{body}
 use Rattle.sasi_tokentree.specs.Format.{nodes}
 use Rattle.sasi_tokentree.specs.Heights.{height}
@@ -16,7 +16,7 @@ use Rattle.sasi_dataread.specs.Bodies.{partition_pages}
 use Rattle.sasi_dataread.specs.Finds.{token_reads}
 use Rattle.sasi_dataread.specs.PlacedKeys.{keys_at}
 use Rattle.sasi_candidates.specs.Costs.{cost, token_cost, token_pages}
-use Rattle.sasi_candidates.specs.Groups.{groups, where_of}
+use Rattle.sasi_candidates.specs.Groups.{groups}
 use Rattle.sasi_candidates.specs.Parts.{Part}
 use Rattle.sasi_candidates.proofs.GroupLaws.{looks_more, looks_most}
 

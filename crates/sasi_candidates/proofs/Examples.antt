@@ -20,7 +20,7 @@ use Rattle.sasi_terms.specs.declared.op.Op.TheVariants as ops
 use Rattle.sasi_model.specs.Abbreviations.{Partitions, value_of}
 use Rattle.sasi_model.specs.Cells.{Partition}
 use Rattle.sasi_model.specs.Conditions.{Condition, Indexed, OfKey, Plain, Equals, Search, finds}
-use Rattle.sasi_model.specs.Filters.{AllOf, leaves}
+use Rattle.sasi_model.specs.Filters.{AllOf, key_asked, leaves, where_of}
 use Rattle.sasi_model.specs.IndexTerms.{any_holds, cell_at, terms_of_cell}
 use Rattle.sasi_model.specs.State.{Index}
 use Rattle.sasi_model.specs.Tokens.{same}
@@ -30,7 +30,7 @@ use Rattle.sasi_layout.specs.Layout.{TableParts}
 use Rattle.sasi_candidates.specs.Candidates.{admits, is_candidate}
 use Rattle.sasi_candidates.specs.Checks.{given, looked}
 use Rattle.sasi_candidates.specs.Costs.{files_of, is_scanned, pairs_at, reads_all}
-use Rattle.sasi_candidates.specs.Groups.{Group, by_token, candidates_in, groups, is_looked, key_asked, looks, where_of}
+use Rattle.sasi_candidates.specs.Groups.{Group, by_token, candidates_in, groups, is_looked, looks}
 use Rattle.sasi_candidates.specs.LayoutParts.{columns_of}
 use Rattle.sasi_candidates.specs.Parts.{Memory, Disk, Part, hit, hit_in_index, hit_in_memory, is_rare, is_stored, keys_with}
 

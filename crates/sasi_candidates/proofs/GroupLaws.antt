@@ -10,10 +10,10 @@ use Rattle.sasi_types.specs.declared.partitioner.Partitioner.{Partitioner}
 use Rattle.sasi_cells.specs.Maps.{merged}
 use Rattle.sasi_model.specs.Cells.{Partition}
 use Rattle.sasi_model.specs.Conditions.{Condition}
-use Rattle.sasi_model.specs.Filters.{Filter, tree}
+use Rattle.sasi_model.specs.Filters.{Filter, key_asked, tree, where_of}
 use Rattle.sasi_candidates.specs.Candidates.{admits, candidates, is_candidate}
 use Rattle.sasi_candidates.specs.Checks.{looked, looked_of}
-use Rattle.sasi_candidates.specs.Groups.{Group, by_token, candidates_in, groups, groups_with, is_looked, key_asked, looks, rows_in, touches, where_of, with_key}
+use Rattle.sasi_candidates.specs.Groups.{Group, by_token, candidates_in, groups, groups_with, is_looked, looks, rows_in, touches, with_key}
 use Rattle.sasi_candidates.specs.Parts.{Part, maps_of}
 use Rattle.sasi_candidates.proofs.Hits.{tree_grows}
 

@@ -9,7 +9,7 @@ use Rattle.sasi_terms.specs.declared.op.Op.{Op}
 use Rattle.sasi_terms.specs.Holds.{holds}
 use Rattle.sasi_model.specs.Abbreviations.{Partitions}
 use Rattle.sasi_model.specs.Conditions.{Condition, OfKey, Indexed, Plain}
-use Rattle.sasi_model.specs.Filters.{answers}
+use Rattle.sasi_model.specs.Filters.{answers, where_of}
 use Rattle.sasi_model.specs.IndexTerms.{terms_at}
 use Rattle.sasi_model.specs.State.{Index}
 use Rattle.sasi_body.specs.Body.{body}
@@ -19,7 +19,7 @@ use Rattle.sasi_dataread.specs.ReadCosts.{file_pages}
 use Rattle.sasi_indexread.specs.Asked.{is_run}
 use Rattle.sasi_postings.specs.Postings.{distinct}
 use Rattle.sasi_layout.specs.Flushed.{contents_of}
-use Rattle.sasi_candidates.specs.Groups.{groups, looks, where_of}
+use Rattle.sasi_candidates.specs.Groups.{groups, looks}
 use Rattle.sasi_candidates.specs.Parts.{Disk, Memory, Origin, Part, is_stored, spilled}
 
 -- ---- the searches of index files

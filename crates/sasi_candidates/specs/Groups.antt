@@ -7,8 +7,8 @@ use Rattle.sasi_types.specs.declared.partitioner.Partitioner.{Partitioner}
 use Rattle.sasi_types.specs.Token.{token_of}
 use Rattle.sasi_cells.specs.Maps.{merged}
 use Rattle.sasi_model.specs.Cells.{Partition}
-use Rattle.sasi_model.specs.Conditions.{Condition, OfKey, Indexed, Plain}
-use Rattle.sasi_model.specs.Filters.{AllOf, Filter, leaves, tree}
+use Rattle.sasi_model.specs.Conditions.{Condition}
+use Rattle.sasi_model.specs.Filters.{Filter, key_asked, tree, where_of}
 use Rattle.sasi_candidates.specs.Candidates.{admits, candidates, is_candidate}
 use Rattle.sasi_candidates.specs.Checks.{looked}
 use Rattle.sasi_candidates.specs.Parts.{Part, maps_of}
@@ -35,17 +35,6 @@ by_token [] = []
 by_token (e ∷ es) = with_key e (by_token es)
 
 -- ---- which tokens are looked at
-
--- the conditions of a WHERE, all of which a row has to meet
-abbrev pub where_of : List Condition → Filter
-where_of conditions = AllOf (leaves conditions)
-
--- the key of the first condition on the key
-abbrev pub key_asked : List Condition → Option (List ℕ)
-key_asked [] = None
-key_asked (OfKey bytes ∷ conditions) = Some bytes
-key_asked (Indexed index search ∷ conditions) = key_asked conditions
-key_asked (Plain column comparison ∷ conditions) = key_asked conditions
 
 -- the condition leaves one of these keys
 abbrev pub touches : List Part → List (DecoratedKey × Partition) → Condition → Bool

@@ -9,14 +9,13 @@ use Rattle.sasi_types.specs.declared.decorated_key.DecoratedKey.{DecoratedKey}
 use Rattle.sasi_types.specs.declared.partitioner.Partitioner.{Partitioner}
 use Rattle.sasi_cells.specs.Maps.{merged}
 use Rattle.sasi_model.specs.Conditions.{Condition, Indexed, OfKey, Plain}
-use Rattle.sasi_model.specs.Filters.{all_of, leaves}
+use Rattle.sasi_model.specs.Filters.{all_of, key_asked, leaves, where_of}
 use Rattle.sasi_model.specs.Tokens.{same}
 use Rattle.sasi_memindex.specs.Book.{Book}
 use Rattle.sasi_views.specs.declared.part.Part as view
 use Rattle.sasi_ranges.specs.declared.entry.Entry.{Entry}
 use Rattle.sasi_candidates.specs.Candidates.{admits, candidates, is_candidate}
 use Rattle.sasi_candidates.specs.Costs.{file_cost, files_of, lacks_index, narrows, pages_of_file, reads_all, searches_cost, token_cost}
-use Rattle.sasi_candidates.specs.Groups.{key_asked, where_of}
 use Rattle.sasi_candidates.specs.Parts.{Origin, Part, maps_of}
 use Rattle.sasi_recheck.specs.Sources.{Candidate}
 use Rattle.sasi_engine.specs.declared.hand.Hand.{Hand}

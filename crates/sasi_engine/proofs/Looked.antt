@@ -10,12 +10,12 @@ use Rattle.sasi_cells.specs.Maps.{merged}
 use Rattle.sasi_model.specs.Abbreviations.{Partitions}
 use Rattle.sasi_model.specs.Cells.{Partition}
 use Rattle.sasi_model.specs.Conditions.{Comparison, Condition, OfKey, Indexed, Plain}
-use Rattle.sasi_model.specs.Filters.{all_of, leaves}
+use Rattle.sasi_model.specs.Filters.{all_of, key_asked, leaves, where_of}
 use Rattle.sasi_ranges.specs.declared.entry.Entry.{Entry}
 use Rattle.sasi_ranges.specs.Entries.{Rises, has_token}
 use Rattle.sasi_ranges.specs.Lists.{each_relation_has, intersection_by, list_at, relation_has, union_of}
 use Rattle.sasi_ranges.proofs.ListLaws.{intersection_by_has, intersection_by_rises}
-use Rattle.sasi_candidates.specs.Groups.{Group, by_token, is_looked, key_asked, touches, where_of}
+use Rattle.sasi_candidates.specs.Groups.{Group, by_token, is_looked, touches}
 use Rattle.sasi_candidates.specs.Parts.{Part, hit, maps_of}
 use Rattle.sasi_candidates.proofs.PairLists.{any_at}
 use Rattle.sasi_engine.specs.Asked.{Asked, asked_of, has_hit, indexed_in, keys_of}

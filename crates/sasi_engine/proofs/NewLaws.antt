@@ -30,7 +30,8 @@ use Rattle.sasi_views.specs.declared.part.Part as view
 use Rattle.sasi_views.specs.declared.part.Part.TheVariants as view_part
 use Rattle.sasi_candidates.specs.Candidates.{candidates}
 use Rattle.sasi_candidates.specs.Costs.{files_of}
-use Rattle.sasi_candidates.specs.Groups.{groups_with, rows_in, where_of}
+use Rattle.sasi_model.specs.Filters.{where_of}
+use Rattle.sasi_candidates.specs.Groups.{groups_with, rows_in}
 use Rattle.sasi_candidates.specs.Parts.{Part, maps_of}
 use Rattle.sasi_candidates.proofs.GroupLaws.{groups_have}
 use Rattle.sasi_narrow.specs.declared.part_hits.PartHits.{PartHits}

@@ -14,7 +14,7 @@ use Rattle.sasi_cells.specs.Maps.{merged}
 use Rattle.sasi_model.specs.Abbreviations.{Partitions}
 use Rattle.sasi_model.specs.Cells.{Partition}
 use Rattle.sasi_model.specs.Conditions.{Condition, OfKey, Indexed, Plain}
-use Rattle.sasi_model.specs.Filters.{all_of, leaves}
+use Rattle.sasi_model.specs.Filters.{all_of, key_asked, leaves, where_of}
 use Rattle.sasi_model.specs.Tokens.{same}
 use Rattle.sasi_layout.specs.Flushed.{contents_of}
 use Rattle.sasi_datawrite.specs.Format.{decorated_key, header}
@@ -24,7 +24,7 @@ use Rattle.sasi_ranges.specs.declared.entry.Entry.{Entry}
 use Rattle.sasi_ranges.specs.Lists.{each_relation_has, intersection_by}
 use Rattle.sasi_candidates.specs.Candidates.{admits, is_candidate}
 use Rattle.sasi_candidates.specs.Costs.{files_of, has_index, is_on_disk}
-use Rattle.sasi_candidates.specs.Groups.{Group, candidates_in, key_asked, where_of}
+use Rattle.sasi_candidates.specs.Groups.{Group, candidates_in}
 use Rattle.sasi_candidates.specs.Parts.{Disk, Memory, Origin, Part, hit, hit_at, hit_on_disk, maps_of}
 use Rattle.sasi_candidates.proofs.Hits.{hit_merged}
 use Rattle.sasi_narrow.specs.declared.part_hits.PartHits.{PartHits}

@@ -27,7 +27,8 @@ use Rattle.sasi_ranges.specs.Entries.{has_token}
 use Rattle.sasi_ranges.specs.Lists.{each_relation_has}
 use Rattle.sasi_candidates.specs.Candidates.{is_candidate}
 use Rattle.sasi_candidates.specs.Costs.{files_of, is_on_disk}
-use Rattle.sasi_candidates.specs.Groups.{Group, by_token, candidates_in, is_looked, rows_in, where_of}
+use Rattle.sasi_model.specs.Filters.{where_of}
+use Rattle.sasi_candidates.specs.Groups.{Group, by_token, candidates_in, is_looked, rows_in}
 use Rattle.sasi_candidates.specs.Parts.{Disk, Memory, Origin, Part, maps_of}
 use Rattle.sasi_candidates.proofs.GroupLaws.{all_by_token}
 use Rattle.sasi_engine.specs.declared.relation.IndexedRelation.{IndexedRelation}

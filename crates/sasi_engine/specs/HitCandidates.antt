@@ -16,7 +16,8 @@ use Rattle.sasi_ranges.specs.declared.entry.Entry.{Entry}
 use Rattle.sasi_ranges.specs.Lists.{intersection_by}
 use Rattle.sasi_views.specs.declared.part.Part as view
 use Rattle.sasi_candidates.specs.Costs.{files_of, is_on_disk, token_cost}
-use Rattle.sasi_candidates.specs.Groups.{Group, by_token, candidates_in, is_looked, key_asked, rows_in, where_of}
+use Rattle.sasi_model.specs.Filters.{key_asked, where_of}
+use Rattle.sasi_candidates.specs.Groups.{Group, by_token, candidates_in, is_looked, rows_in}
 use Rattle.sasi_candidates.specs.Parts.{Part, maps_of}
 use Rattle.sasi_lookup.specs.Lookups.{HasKeysOf, IsLookingIn}
 use Rattle.sasi_lookup.specs.Reads.{found_pages}

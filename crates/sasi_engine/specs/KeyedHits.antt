@@ -8,7 +8,7 @@ use Rattle.sasi_model.specs.Conditions.{Condition, Indexed, OfKey, Plain}
 use Rattle.sasi_model.specs.State.{decorated}
 use Rattle.sasi_model.specs.Tokens.{same}
 use Rattle.sasi_candidates.specs.Costs.{files_of}
-use Rattle.sasi_candidates.specs.Groups.{key_asked}
+use Rattle.sasi_model.specs.Filters.{key_asked}
 use Rattle.sasi_candidates.specs.Parts.{maps_of}
 use Rattle.sasi_engine.specs.Asked.{asked_of}
 use Rattle.sasi_engine.specs.HitCandidates.{PlanWorld, in_memory}

@@ -8,7 +8,7 @@ ghost use Rattle.sasi_host.specs.Names.{Folder};
 ghost use Rattle.sasi_memindex.specs.Book.{Book};
 ghost use Rattle.sasi_candidates.specs.Candidates.{candidates};
 ghost use Rattle.sasi_candidates.specs.Costs.{file_cost, files_of};
-ghost use Rattle.sasi_candidates.specs.Groups.{where_of};
+ghost use Rattle.sasi_model.specs.Filters.{where_of};
 ghost use Rattle.sasi_sources.specs.KeyCandidates.{HasKeyType};
 ghost use Rattle.sasi_engine.specs.HitCandidates.{IsLeft, IsMadeOf, IsOwing, IsWorld, PlanWorld, looked_groups, prices_from};
 ghost use Rattle.sasi_engine.specs.Plans.{AreShort, IsCandidateDamage, IsOneOf, file_numbers, is_file_of, map_numbers};

@@ -11,7 +11,7 @@ ghost use Rattle.sasi_ranges.specs.declared.entry.Entry.{Entry as SpecEntry};
 ghost use Rattle.sasi_ranges.specs.StreamCalls.{CanStream, HasStreamed, StreamFaults};
 ghost use Rattle.sasi_candidates.specs.Candidates.{candidates};
 ghost use Rattle.sasi_candidates.specs.Costs.{file_cost, files_of, token_cost};
-ghost use Rattle.sasi_candidates.specs.Groups.{where_of};
+ghost use Rattle.sasi_model.specs.Filters.{where_of};
 ghost use Rattle.sasi_lookup.specs.Reads.{found_pages};
 ghost use Rattle.sasi_recheck.specs.Sources.{Candidate, GivesFirst, GivesPrintable, first_price};
 ghost use Rattle.sasi_sources.specs.KeyCandidates.{HasKeyType};

@@ -16,7 +16,7 @@ use Rattle.sasi_types.specs.Value.{stored}
 use Rattle.sasi_model.specs.Abbreviations.{Partitions, definitions}
 use Rattle.sasi_model.specs.Asked.{Asked, NoChange, Creates, Defines, Writes, Flushes, asked_of, define_of, key_given, parsed_asks, state_asked, statement_asks, write_asked, write_of}
 use Rattle.sasi_model.specs.Cells.{Partition}
-use Rattle.sasi_model.specs.Parsers.{Parser, grammar_parser}
+use Rattle.sasi_model.specs.Parsers.{Parser}
 use Rattle.sasi_model.specs.Pieces.{Piece}
 use Rattle.sasi_model.specs.Refusals.{Bad, Known, Nothing, ParsedPiece, Refusal, Says, known_of, read_by, refusal, rules}
 use Rattle.sasi_model.specs.State.{Definition, Index, State, Table, apply, decorated, key_column, max_timestamp, with_table}
@@ -30,7 +30,6 @@ use Rattle.sasi_layout.specs.Moves as moves
 use Rattle.sasi_layout.specs.Moves.{AreLegal, Move, after_moves, states}
 use Rattle.sasi_layout.specs.Statements.{any_partition, are_full, definitions_of, flush_where, known_in, moves_asked, moves_by}
 use Rattle.sasi_layout.specs.NumbersInOrder.{HasNumbersInOrder}
-use Rattle.sasi_layout.specs.Worlds.{World, steps}
 use Rattle.sasi_layout.proofs.LayoutLaws.{changed_is, moves_state}
 use Rattle.sasi_layout.proofs.MovesInOrder.{legal_front, moves_in_order}
 
@@ -326,8 +325,5 @@ pub front_state_by : (parser : Parser) (l : Layout) (piece : Piece) (done rest :
 front_state_by parser l piece done rest parts in_order =
     moves_state done l (legal_front done rest l (subst (λ (ms : List Move). AreLegal ms l) parts (piece_legal parser l piece))) in_order
 
-pub step_state : (w : World) (piece : Piece) → HasNumbersInOrder w.layout → state_of (steps.after w piece).layout ≡ (step_by grammar_parser (state_of w.layout) piece).state
-step_state w piece in_order = step_state_by grammar_parser w.layout piece in_order
-
-pub step_in_order : (w : World) (piece : Piece) → HasNumbersInOrder w.layout → HasNumbersInOrder (steps.after w piece).layout
-step_in_order w piece in_order = moves_in_order (moves_by grammar_parser w.layout piece) w.layout (piece_legal grammar_parser w.layout piece) in_order
+pub step_in_order : (parser : Parser) (l : Layout) (piece : Piece) → HasNumbersInOrder l → HasNumbersInOrder (after_moves (moves_by parser l piece) l)
+step_in_order parser l piece in_order = moves_in_order (moves_by parser l piece) l (piece_legal parser l piece) in_order

@@ -10,5 +10,5 @@ pub mod Flushed
 pub mod Between
 pub mod Serving
 pub mod Classes
-pub mod Worlds
+pub mod Transitions
 pub mod Running

@@ -8,7 +8,7 @@ use Rattle.sasi_layout.specs.Between.{Between}
 use Rattle.sasi_layout.specs.Layout.{Layout, bare}
 use Rattle.sasi_layout.specs.Moves.{Move}
 use Rattle.sasi_layout.specs.Shape.{IsOfShape}
-use Rattle.sasi_layout.specs.Worlds.{Transitions}
+use Rattle.sasi_layout.specs.Transitions.{Transitions}
 
 -- the world after pieces
 abbrev pub after_pieces : {W : Type 0} → Transitions W → W → List Piece → W

@@ -3,9 +3,8 @@ use Rattle.std.proofs.Common.{◌≡◌, ℕ, Bool, true, false, ◌&&◌, List,
 use Rattle.std.specs.Cmp.Lexicographic.{same_text}
 use Rattle.sasi_model.specs.Cells.{Partition}
 use Rattle.sasi_model.specs.Conditions.{Condition, Indexed, OfKey, Plain, meets}
-use Rattle.sasi_model.specs.Filters.{accepts}
+use Rattle.sasi_model.specs.Filters.{accepts, key_asked, where_of}
 use Rattle.sasi_model.specs.Tokens.{same}
-use Rattle.sasi_machine.specs.Where.{key_asked, where_of}
 
 both : (a b : Bool) → (a && b) ≡ true → (a ≡ true) × (b ≡ true)
 both true b e = (refl, e)

@@ -12,7 +12,7 @@ use Rattle.sasi_cells.specs.Rows.{picked_value}
 use Rattle.sasi_model.specs.Cells.{Partition}
 use Rattle.sasi_model.specs.State.{Column, Definition, number_of_column}
 use Rattle.sasi_model.specs.Conditions.{Condition, condition_of}
-use Rattle.sasi_model.specs.Filters.{Filter, answers, filter_of, limited, row_limit, rows, rows_up_to}
+use Rattle.sasi_model.specs.Filters.{Filter, answers, filter_of, limited, row_limit, rows, rows_up_to, where_of}
 use Rattle.sasi_model.specs.Lines.{rows_lines}
 use Rattle.sasi_model.specs.Step.{select_lines, selected_columns, value_numbered, values_numbered}
 use Rattle.sasi_model.specs.Values.{value_stored}
@@ -21,7 +21,6 @@ use Rattle.sasi_schema.specs.Numbers.{IsKeyAt}
 use Rattle.sasi_schema.proofs.Keys.{key_is}
 use Rattle.sasi_machine.specs.TableRows.{rows_picked}
 use Rattle.sasi_machine.specs.Picks.{pick}
-use Rattle.sasi_machine.specs.Where.{where_of}
 
 count_push : (from n : ℕ) → count_up from (suc n) ≡ count_up from n ++ (from + n) ∷ []
 count_push from zero = ap (λ m. m ∷ []) (omega arith)

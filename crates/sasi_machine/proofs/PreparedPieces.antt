@@ -1,5 +1,5 @@
 -- What the calls of a preparation give.
-use Rattle.std.proofs.Common.{◌≡◌, ◌++◌, ◌-◌, ◌<◌, ℕ, List, [], length, get_or, slice_get, Option, Some, None, Result, Ok, Err, IfOk, OnOk, sym, ap, subst, ◌∙◌}
+use Rattle.std.proofs.Common.{◌≡◌, ◌++◌, ◌-◌, ◌<◌, ℕ, List, [], length, get_or, slice_get, Option, IsSome, Some, None, Result, Ok, Err, IfOk, OnOk, refl, sym, ap, subst, ◌∙◌}
 use Rattle.std.specs.FinMap as fin
 use Rattle.std.specs.Option.{option_map, option_map_or}
 use Rattle.std.proofs.lemmas.Option.{get_or_from_slice_get}
@@ -71,6 +71,10 @@ bad_steps s piece r cleared reply outcome bad empty reply_is outcome_is =
       reply_is = ap (λ (x : StepResult). x.reply) same ∙ sym (reply_is ∙ ap (λ (front : List ℕ). front ++ refusal_line r) empty);
       outcome_is = outcome_is ∙ ap (λ (x : StepResult). outcome_of x.refused) (sym same);
     }
+
+pub bad_refused : (s : State) (piece : Piece) (r : Refusal) → read piece ≡ Bad r → IsSome (step s piece).refused
+unfolding step_by
+bad_refused s piece r bad = rw bad refl
 
 -- ---- the machine
 

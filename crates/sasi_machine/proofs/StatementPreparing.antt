@@ -1,5 +1,5 @@
 -- What statements prepare.
-use Rattle.std.proofs.Common.{◌≡◌, drop, is_some, ℕ, zero, suc, ◌+◌, ◌-◌, ◌<◌, List, [], ◌∷◌, ◌++◌, length, map, set, slice_get, Option, Some, None, Result, Ok, Err, IfOk, refl, sym, ap, subst, ◌∙◌, arith}
+use Rattle.std.proofs.Common.{◌≡◌, Bool, inl, drop, is_some, ℕ, zero, suc, ◌+◌, ◌-◌, ◌<◌, List, [], ◌∷◌, ◌++◌, length, map, set, slice_get, Option, IsSome, Some, None, Result, Ok, Err, IfOk, refl, sym, ap, subst, ◌∙◌, arith}
 use Rattle.std.specs.Prelude.{max}
 use Rattle.std.specs.FinMap as fin
 use Rattle.std.specs.Option.{option_map, option_map_or}
@@ -8,11 +8,11 @@ use Rattle.sasi_types.specs.declared.partitioner.Partitioner.{Partitioner}
 use Rattle.sasi_types.specs.declared.partitioner.Partitioner.TheVariants.{Lead8}
 use Rattle.sasi_types.specs.declared.statement.Select.{Select}
 use Rattle.sasi_types.specs.declared.statement.Statement.{Statement}
-use Rattle.sasi_types.specs.declared.statement.Statement.TheVariants.{CreateTable, CreateIndex, Flush, Query}
+use Rattle.sasi_types.specs.declared.statement.Statement.TheVariants.{CreateTable, CreateIndex, Flush, Query, Trace}
 use Rattle.sasi_cells.proofs.Laws.Times.{body_limit}
 use Rattle.sasi_cells.specs.Rows.{IsStored}
 use Rattle.sasi_model.specs.Asked as ask
-use Rattle.sasi_model.specs.Asked.{Asked, asks, parsed_asks}
+use Rattle.sasi_model.specs.Asked.{asks, parsed_asks}
 use Rattle.sasi_model.specs.Cells.{Partition, max_timestamp_of}
 use Rattle.sasi_model.specs.Abbreviations.{key_position, max_timestamp_of_tables, definitions, ok_line, NoTable, TableExists, first_refusal, new_definition, key_type, types_of}
 use Rattle.sasi_model.specs.Stored.{IsBodyOf, IsValueOf, column_types}
@@ -25,7 +25,7 @@ use Rattle.sasi_model.specs.Pieces.{Piece}
 use Rattle.sasi_model.specs.Refusals.{Known, Refusal, RefusalRule, Says, create_rules, flush_rules, known_of, read, refusal, rules, select_rules}
 use Rattle.sasi_model.specs.State as model
 use Rattle.sasi_model.specs.State.{Column, Definition, State, definition_of, max_timestamp, decorated}
-use Rattle.sasi_model.specs.Step.{StepResult, answer_of, primary_key, select_lines, step, step_as, step_by}
+use Rattle.sasi_model.specs.Step.{StepResult, answer_of, execute, primary_key, refused_step as refused_as, select_lines, step, step_as, step_by}
 use Rattle.sasi_schema.specs.Answers.{IsFirstRefusal}
 use Rattle.sasi_schema.specs.Defined.{definition}
 use Rattle.sasi_schema.specs.Numbers.{number_of_table}
@@ -34,7 +34,7 @@ use Rattle.sasi_schema.specs.declared.index.NewIndex.{NewIndex}
 use Rattle.sasi_schema.specs.declared.table.Table.{Table}
 use Rattle.sasi_machine.specs.declared.outcome.Outcome.{Outcome}
 use Rattle.sasi_machine.specs.declared.prepared.Prepared.{Prepared}
-use Rattle.sasi_machine.specs.declared.prepared.Prepared.TheVariants.{Answered, Create, Define, Write as Writes, Flush as Flushes, Select as Selects}
+use Rattle.sasi_machine.specs.declared.prepared.Prepared.TheVariants.{Answered, Create, Define, Write as Writes, Flush as Flushes, Select as Selects, Trace as Traces}
 use Rattle.sasi_machine.specs.declared.prepared.Selection.{Selection}
 use Rattle.sasi_cells.specs.declared.mutation.Mutation.{Mutation}
 use Rattle.sasi_memtable.specs.MemtableView.{MemtableView, empty_memtable}
@@ -138,6 +138,14 @@ pub flush_refused : (known : Known) (table : List ℕ) (reply_old reply_new : Li
 flush_refused known table reply_old reply_new outcome absent refused =
     refuses known (Flush table) (Some (NoTable table)) reply_old reply_new outcome (ap (λ (o : Option Definition). first_refusal (flush_rules table o)) absent) refused
 
+-- ---- TRACE
+
+pub trace_asks : (known : Known) (on : Bool) (reply_old reply_new : List ℕ) → reply_new ≡ reply_old ++ ok_line → IsPrepared known (Trace on) reply_old reply_new (Traces on)
+trace_asks known on reply_old reply_new reply_is = record {
+  asked_is = refl;
+  of_state = λ s of. (takes s (Trace on) s reply_old reply_new (outcome_of None) (not_refused s known (Trace on) of refl) refl reply_is refl, (not_refused s known (Trace on) of refl, refl));
+}
+
 -- ---- SELECT
 
 first_is : (rules : List RefusalRule) → IsFirstRefusal (first_refusal rules) rules
@@ -164,6 +172,7 @@ pub select_asks : (known : Known) (select : Select) (found : Option Table) (repl
 select_asks known select found reply_old reply_new (Answered outcome) written defined numbered prepares =
     let refused = first_refusal (select_rules select (option_map definition found)) in
     refuses known (Query select) refused reply_old reply_new outcome (subst (λ (o : Option Definition). IsFirstRefusal refused (select_rules select o)) defined (first_is (select_rules select (option_map definition found)))) prepares
+select_asks known select found reply_old reply_new (Traces on) written defined numbered prepares = absurd prepares
 select_asks known select None reply_old reply_new (Selects rows) written defined numbered prepares = absurd prepares.2
 select_asks known select (Some t) reply_old reply_new (Selects rows) written defined numbered prepares =
     let none : first_refusal (rules known (Query select)) ≡ None = subst (λ (o : Option Definition). first_refusal (select_rules select o) ≡ None) defined prepares.0 in
@@ -197,6 +206,11 @@ select_asks known select found reply_old reply_new (Flushes table) written defin
 pub for_any : {E : Type 0} (known : Known) (statement : Statement) (reply_old reply_new : List ℕ) (result : Result Prepared E) → IfOk result (λ prepared. (max_time : ℕ) → IsPrepared (record known { max_timestamp = max_time }) statement reply_old reply_new prepared) → IfOk result (IsPreparedFor known statement reply_old reply_new)
 for_any known statement reply_old reply_new (Ok prepared) of = record { now = of known.max_timestamp; timeless = λ timeless other. of other }
 for_any known statement reply_old reply_new (Err e) of = tt
+
+pub for_every : {E : Type 0} (known : Known) (statement : Statement) (reply_old reply_new : List ℕ) (result : Result Prepared E) → IfOk result (λ prepared. (known : Known) → IsPrepared known statement reply_old reply_new prepared)
+    → IfOk result (IsPreparedFor known statement reply_old reply_new)
+for_every known statement reply_old reply_new (Ok prepared) of = record { now = of known; timeless = λ timeless other. of (record known { max_timestamp = other }) }
+for_every known statement reply_old reply_new (Err e) of = tt
 
 -- ---- what is done
 
@@ -300,6 +314,15 @@ steps s piece statement state reply_old reply outcome says empty takes =
       outcome_is = takes.outcome_is ∙ ap (λ (x : StepResult). outcome_of x.refused) (sym same);
     }
 
+-- a refused statement is a refused piece
+refused_step : (s : State) (piece : Piece) (statement : Statement) → read piece ≡ Says statement → IsSome (refusal s statement) → IsSome (step s piece).refused
+unfolding step_by
+refused_step s piece statement says some = rw says (by (refusal s statement) some)
+  where
+    by : (o : Option Refusal) → IsSome o → IsSome (option_map_or (refused_as s) o (execute s statement)).refused
+    by None some = cc
+    by (Some r) some = refl
+
 -- the answer of a SELECT, once its rows are printed
 rows_step : (s : State) (statement : Statement) (rows : Selection) → SelectsRows s statement rows → StatementStepsTo s statement s [] (answer_rows s rows) (outcome_of None)
 rows_step s (Query select) rows selects = takes s (Query select) s [] (answer_rows s rows) (outcome_of None) selects.taken refl (sym selects.answer) refl
@@ -319,8 +342,7 @@ index_there s statement new defines = absurd defines
 
 pub prepares : (s : State) (piece : Piece) (statement : Statement) (reply_old reply : List ℕ) (prepared : Prepared) → read piece ≡ Says statement → IsWellFormed statement → reply_old ≡ []
     → StatementPrepares s statement reply_old reply prepared → Prepares s piece reply prepared
-prepares s piece statement reply_old reply (Answered outcome) says well empty asks =
-    steps s piece statement s reply_old reply outcome says empty asks
+prepares s piece statement reply_old reply (Answered outcome) says well empty asks = (steps s piece statement s reply_old reply outcome says empty asks.0, inl (refused_step s piece statement says asks.1))
 prepares s piece statement reply_old reply (Create t) says well empty asks =
     (steps s piece statement (with_new_table s (definition t)) reply_old reply (outcome_of None) says empty asks.0, (statement, says, well, asks.1), makes_next s statement t asks.1)
 prepares s piece statement reply_old reply (Define new) says well empty asks =
@@ -331,6 +353,9 @@ prepares s piece statement reply_old reply (Flushes table) says well empty asks 
     (steps s piece statement s reply_old reply (outcome_of None) says empty asks.0, (statement, says, well, asks.1), flush_there s statement table asks.1)
 prepares s piece statement reply_old reply (Selects rows) says well empty asks =
     (steps s piece statement s [] (answer_rows s rows) (outcome_of None) says refl (rows_step s statement rows asks.1), asks.0 ∙ empty, rows_there s statement rows asks.1, (statement, says, well, asks.1))
+
+prepares s piece statement reply_old reply (Traces on) says well empty asks =
+    (steps s piece statement s reply_old reply (outcome_of None) says empty asks.0, (statement, says, well, asks.1))
 
 pub piece_prepares : {E : Type 0} (known : Known) (piece : Piece) (statement : Statement) (reply_old reply : List ℕ) (result : Result Prepared E) → read piece ≡ Says statement → IsWellFormed statement → reply_old ≡ []
     → IfOk result (IsPreparedFor known statement reply_old reply) → IfOk result (λ prepared. (s : State) → IsStateOf known s → Prepares s piece reply prepared)
@@ -378,6 +403,7 @@ query_of known statement reply_old reply (Create t) asks select = absurd select
 query_of known statement reply_old reply (Define new) asks select = absurd select
 query_of known statement reply_old reply (Writes w) asks select = absurd select
 query_of known statement reply_old reply (Flushes table) asks select = absurd select
+query_of known statement reply_old reply (Traces on) asks select = absurd select
 
 pub piece_selects : {E : Type 0} (known : Known) (piece : Piece) (statement : Statement) (reply_old reply : List ℕ) (result : Result Prepared E) → read piece ≡ Says statement
     → IfOk result (IsPreparedFor known statement reply_old reply) → IfOk result (λ prepared. IsSelect prepared → IsQuery (read piece))

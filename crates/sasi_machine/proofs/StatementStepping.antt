@@ -61,7 +61,7 @@ pub refuses : (known : Known) (statement : Statement) (refused : Option Refusal)
 refuses known statement None reply_old reply_new outcome first refused = absurd refused
 refuses known statement (Some r) reply_old reply_new outcome first refused = record {
   asked_is = ap (λ (o : Option Refusal). option_map_or (λ _. ask.NoChange) o (statement_asks known statement)) first;
-  of_state = λ s is. rw (is_refusal s known statement r is first) (record { state_is = refl; reply_is = refused.0; outcome_is = refused.1 });
+  of_state = λ s is. rw (is_refusal s known statement r is first) (record { state_is = refl; reply_is = refused.0; outcome_is = refused.1 }, refl);
 }
 
 -- a statement that isn't

@@ -1,11 +1,11 @@
--- What a piece prepares: an answer alone, a new table, a new index, a mutation, a flush, or rows to print.
-use Rattle.std.specs.Prelude.{◌≡◌, ℕ, ◌+◌, ◌-◌, ◌<◌, ◌≤◌, List, length, slice_get, [], None, Some, true, ⊤}
+-- What a piece prepares: an answer alone, a new table, a new index, a mutation, a flush, rows to print, or TRACE.
+use Rattle.std.specs.Prelude.{◌≡◌, ◌⊎◌, ℕ, ◌+◌, ◌-◌, ◌<◌, ◌≤◌, Bool, List, length, slice_get, [], IsSome, None, Some, true, ⊤}
 use Rattle.std.specs.FinMap as map_
 use Rattle.std.specs.Option.{option_map_or}
 use Rattle.sasi_types.specs.declared.column.ColumnType.{ColumnType}
 use Rattle.sasi_types.specs.declared.statement.Select.{Select}
 use Rattle.sasi_types.specs.declared.statement.Statement.{Statement}
-use Rattle.sasi_types.specs.declared.statement.Statement.TheVariants.{CreateTable, CreateIndex, Flush, Query}
+use Rattle.sasi_types.specs.declared.statement.Statement.TheVariants.{CreateTable, CreateIndex, Flush, Query, Trace}
 use Rattle.sasi_cells.specs.declared.mutation.Mutation.{Mutation}
 use Rattle.sasi_cells.specs.Mutations.{state_with_mutation}
 use Rattle.sasi_schema.specs.Defined.{definition}
@@ -21,7 +21,7 @@ use Rattle.sasi_model.specs.Asked as ask
 use Rattle.sasi_model.specs.Asked.{Asked, parsed_asks}
 use Rattle.sasi_model.specs.Abbreviations.{definitions, new_definition}
 use Rattle.sasi_model.specs.Changes.{state_with_index, with_new_table}
-use Rattle.sasi_model.specs.Refusals.{Known, ParsedPiece, Says, is_built, known_of, read, refusal}
+use Rattle.sasi_model.specs.Refusals.{Known, Nothing, ParsedPiece, Says, is_built, known_of, read, refusal}
 use Rattle.sasi_model.specs.Step.{answer_of, select_lines, step}
 use Rattle.sasi_model.specs.Stored.{IsBodyOf, column_types}
 use Rattle.sasi_model.specs.WellFormed.{IsWellFormed}
@@ -31,7 +31,7 @@ use Rattle.sasi_machine.specs.StatementSteps.{StatementStepsTo}
 use Rattle.sasi_machine.specs.Writes.{IsWrite, IsWriting}
 use Rattle.sasi_machine.specs.declared.outcome.Outcome.{Outcome}
 use Rattle.sasi_machine.specs.declared.prepared.Prepared.{Prepared}
-use Rattle.sasi_machine.specs.declared.prepared.Prepared.TheVariants.{Answered, Create, Define, Write as Writes, Flush as Flushes, Select as Selects}
+use Rattle.sasi_machine.specs.declared.prepared.Prepared.TheVariants.{Answered, Create, Define, Write as Writes, Flush as Flushes, Select as Selects, Trace as Traces}
 use Rattle.sasi_machine.specs.declared.prepared.Selection.{Selection}
 
 -- what is known of a state with this schema and this largest timestamp
@@ -113,14 +113,20 @@ abbrev pub SelectsRows : State → Statement → Selection → Type 0
 SelectsRows s (Query select) rows = SelectsFrom s select rows
 SelectsRows s statement rows = ⊥
 
+-- the statement isn't refused, and turns TRACE on or off
+abbrev pub TurnsTrace : State → Statement → Bool → Type 0
+TurnsTrace s (Trace on) asked = (refusal s (Trace on) ≡ None) × (on ≡ asked)
+TurnsTrace s statement asked = ⊥
+
 -- what a statement prepares, with its reply appended; that of a SELECT is still to come
 abbrev pub StatementPrepares : State → Statement → List ℕ → List ℕ → Prepared → Type 0
-StatementPrepares s statement reply_old reply_new (Answered outcome) = StatementStepsTo s statement s reply_old reply_new outcome
+StatementPrepares s statement reply_old reply_new (Answered outcome) = StatementStepsTo s statement s reply_old reply_new outcome × IsSome (refusal s statement)
 StatementPrepares s statement reply_old reply_new (Create t) = StatementStepsTo s statement (with_new_table s (definition t)) reply_old reply_new (outcome_of None) × CreatesTable s statement t
 StatementPrepares s statement reply_old reply_new (Define new) = StatementStepsTo s statement (state_with_index s new.table (index_of_new new)) reply_old reply_new (outcome_of None) × DefinesIndex s statement new
 StatementPrepares s statement reply_old reply_new (Writes w) = StatementStepsTo s statement (state_with_mutation s w) reply_old reply_new (outcome_of None) × WritesTo s statement w
 StatementPrepares s statement reply_old reply_new (Flushes table) = StatementStepsTo s statement s reply_old reply_new (outcome_of None) × FlushesTable s statement table
 StatementPrepares s statement reply_old reply_new (Selects rows) = (reply_new ≡ reply_old) × SelectsRows s statement rows
+StatementPrepares s statement reply_old reply_new (Traces on) = StatementStepsTo s statement s reply_old reply_new (outcome_of None) × TurnsTrace s statement on
 
 -- what is asked of the tables
 abbrev pub asked_by : Prepared → Asked
@@ -130,13 +136,14 @@ asked_by (Define new) = ask.Defines new.table (index_of_new new)
 asked_by (Writes w) = ask.Writes w.table w.key w.change
 asked_by (Flushes table) = ask.Flushes table
 asked_by (Selects rows) = ask.NoChange
+asked_by (Traces on) = ask.NoChange
 
 -- what a statement prepares, by what is known of the state
 pub record IsPrepared (known : Known) (statement : Statement) (reply_old reply_new : List ℕ) (prepared : Prepared) : Type 0 where
   pub asked_is : parsed_asks known (Says statement) ≡ asked_by prepared
   pub of_state : (s : State) → IsStateOf known s → StatementPrepares s statement reply_old reply_new prepared
 
--- a new table, a new index, a flush and rows don't depend on the time
+-- a new table, a new index, a flush, rows and TRACE don't depend on the time
 abbrev pub IsTimeless : Prepared → Type 0
 IsTimeless (Answered outcome) = ⊥
 IsTimeless (Create t) = ⊤
@@ -144,6 +151,7 @@ IsTimeless (Define new) = ⊤
 IsTimeless (Writes w) = ⊥
 IsTimeless (Flushes table) = ⊤
 IsTimeless (Selects rows) = ⊤
+IsTimeless (Traces on) = ⊤
 
 -- the same, where what doesn't depend on the time is prepared whatever the largest timestamp
 pub record IsPreparedFor (known : Known) (statement : Statement) (reply_old reply_new : List ℕ) (prepared : Prepared) : Type 0 where
@@ -167,6 +175,10 @@ abbrev pub IsQuery : ParsedPiece → Type 0
 IsQuery (Says (Query select)) = ⊤
 IsQuery parsed = ⊥
 
+-- the piece is refused, or a `;` alone
+abbrev pub IsRefusedOrEmpty : State → Piece → Type 0
+IsRefusedOrEmpty s piece = IsSome (step s piece).refused ⊎ (read piece ≡ Nothing)
+
 -- the step of the piece has this state, this reply and this outcome
 pub record StepsTo (s : State) (piece : Piece) (state : State) (reply : List ℕ) (outcome : Outcome) : Type 0 where
   pub state_is : (step s piece).state ≡ state
@@ -179,9 +191,10 @@ SaysOne piece P = (statement : Statement) × (read piece ≡ Says statement) × 
 
 -- what a piece prepares; the rows of a SELECT are still to come
 abbrev pub Prepares : State → Piece → List ℕ → Prepared → Type 0
-Prepares s piece reply (Answered outcome) = StepsTo s piece s reply outcome
+Prepares s piece reply (Answered outcome) = StepsTo s piece s reply outcome × IsRefusedOrEmpty s piece
 Prepares s piece reply (Create t) = StepsTo s piece (with_new_table s (definition t)) reply (outcome_of None) × SaysOne piece (λ statement. CreatesTable s statement t) × IsNewTable s t
 Prepares s piece reply (Define new) = StepsTo s piece (state_with_index s new.table (index_of_new new)) reply (outcome_of None) × SaysOne piece (λ statement. DefinesIndex s statement new) × IsAddable s new
 Prepares s piece reply (Writes w) = StepsTo s piece (state_with_mutation s w) reply (outcome_of None) × SaysOne piece (λ statement. WritesTo s statement w) × IsApplicable s w
 Prepares s piece reply (Flushes table) = StepsTo s piece s reply (outcome_of None) × SaysOne piece (λ statement. FlushesTable s statement table) × HasTable s table
 Prepares s piece reply (Selects rows) = StepsTo s piece s (answer_rows s rows) (outcome_of None) × (reply ≡ []) × HasRows s rows × SaysOne piece (λ statement. SelectsRows s statement rows)
+Prepares s piece reply (Traces on) = StepsTo s piece s reply (outcome_of None) × SaysOne piece (λ statement. TurnsTrace s statement on)

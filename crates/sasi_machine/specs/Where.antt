@@ -1,11 +1,10 @@
 -- The WHERE of a SELECT, with its literals read: conditions, as the model's.
-use Rattle.std.specs.Prelude.{◌≡◌, ℕ, List, [], ◌∷◌, Option, None, Some, ⊤}
+use Rattle.std.specs.Prelude.{◌≡◌, ℕ, Some, ⊤}
 use Rattle.std.specs.Str.{IsUtf8}
 use Rattle.sasi_types.specs.declared.value.Value.{Value}
 use Rattle.sasi_types.specs.declared.value.Value.TheVariants as values
 use Rattle.sasi_model.specs.Cells.{Partition, value_at}
 use Rattle.sasi_model.specs.Conditions as model
-use Rattle.sasi_model.specs.Filters.{AllOf, Filter, leaves}
 use Rattle.sasi_model.specs.Indexes.{index_of}
 use Rattle.sasi_machine.specs.declared.condition.Comparison.{Comparison}
 use Rattle.sasi_machine.specs.declared.condition.Comparison.TheVariants as comparisons
@@ -27,19 +26,6 @@ abbrev pub model_condition : Condition → model.Condition
 model_condition (OfKey key) = model.OfKey key
 model_condition (Indexed index search) = model.Indexed (index_of index) (model_search search)
 model_condition (Plain column comparison) = model.Plain column (model_comparison comparison)
-
--- ---- the conditions together
-
--- all of them have to hold
-abbrev pub where_of : List model.Condition → Filter
-where_of conditions = AllOf (leaves conditions)
-
--- the bytes of the key that the first condition on the key asks for
-abbrev pub key_asked : List model.Condition → Option (List ℕ)
-key_asked [] = None
-key_asked (model.OfKey key ∷ conditions) = Some key
-key_asked (model.Indexed index search ∷ conditions) = key_asked conditions
-key_asked (model.Plain column comparison ∷ conditions) = key_asked conditions
 
 -- ---- texts
 

@@ -14,7 +14,8 @@ pub fn is_built(statement: &Statement) -> bool
         | Statement::Update { .. }
         | Statement::Delete { .. }
         | Statement::Query { .. }
-        | Statement::Flush { .. } => true,
+        | Statement::Flush { .. }
+        | Statement::Trace { .. } => true,
         Statement::CreateIndex { stepped, .. } => !*stepped,
         _ => false,
     }

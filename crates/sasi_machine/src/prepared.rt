@@ -19,6 +19,8 @@ pub enum Prepared {
     Flush(TableNumber),
     /// A SELECT, whose rows are to be printed behind the reply so far.
     Select(Selection),
+    /// TRACE to be turned on or off.
+    Trace(bool),
 }
 
 /// A SELECT that isn't refused, and the number of its table.

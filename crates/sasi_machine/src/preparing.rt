@@ -1,11 +1,11 @@
 // The preparing of pieces, before anything changes.
 ghost use Rattle.std.specs.Prelude.{◌≡◌, ◌≤◌, ℕ, true, map, IfErr, IfOk};
-ghost use Rattle.sasi_types.specs.declared.statement.Statement.TheVariants.{CreateTable, Flush};
+ghost use Rattle.sasi_types.specs.declared.statement.Statement.TheVariants.{CreateTable, Flush, Trace};
 ghost use Rattle.sasi_model.specs.Abbreviations.{TIME_LIMIT as time_limit};
 ghost use Rattle.sasi_model.specs.Asked.{asks};
 ghost use Rattle.sasi_model.specs.Pieces.{piece_of};
 ghost use Rattle.sasi_model.specs.Abbreviations.{definitions};
-ghost use Rattle.sasi_model.specs.Refusals.{is_built, read as parsed};
+ghost use Rattle.sasi_model.specs.Refusals.{Known, is_built, read as parsed};
 ghost use Rattle.sasi_model.specs.State.{State};
 ghost use Rattle.sasi_model.specs.WellFormed.{IsWellFormed};
 ghost use Rattle.sasi_machine.specs.Classes.{OnMissing, TablesLack};
@@ -120,6 +120,7 @@ fn prepare_change(
             reply,
         ),
         Statement::Flush { table } => prepare_flush(schema, table, reply),
+        Statement::Trace { on } => prepare_trace(on, reply),
         write => prepare_mutation(builder, schema, write, reply),
     }
 }
@@ -174,6 +175,14 @@ fn prepare_flush(schema: &Schema, table: Name, reply: &mut Reply) -> Result<Prep
             Ok(Prepared::Answered(outcome))
         }
     }
+}
+
+// TRACE is never refused.
+fn prepare_trace(on: bool, reply: &mut Reply) -> Result<Prepared, AllocError>
+    ensures { IfOk result (λ prepared. (known : Known) → IsPrepared known (Trace on) reply.old reply.new prepared) }
+{
+    ok(reply)?;
+    Ok(Prepared::Trace(on))
 }
 
 // An INSERT, an UPDATE or a DELETE.

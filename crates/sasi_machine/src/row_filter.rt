@@ -1,9 +1,9 @@
 // The WHERE of a SELECT, as it is tested.
 ghost use Rattle.std.specs.Prelude.{◌≡◌, IfOk, IfErr, map};
 ghost use Rattle.std.specs.Option.{option_copied};
-ghost use Rattle.sasi_model.specs.Filters.{accepts};
+ghost use Rattle.sasi_model.specs.Filters.{accepts, key_asked, where_of};
 ghost use Rattle.sasi_machine.specs.Classes.{OnMissing, WhereLacks};
-ghost use Rattle.sasi_machine.specs.Where.{HasTexts, key_asked, model_condition, where_of};
+ghost use Rattle.sasi_machine.specs.Where.{HasTexts, model_condition};
 
 use crate::condition::{Condition, meets};
 use sasi_analyzers::Kit;

@@ -7,7 +7,7 @@ ghost use Rattle.sasi_cells.specs.Rows.{IsStored};
 ghost use Rattle.sasi_model.specs.Abbreviations.{key_type, row_line};
 ghost use Rattle.sasi_model.specs.Cells.{Partition as Cells};
 ghost use Rattle.sasi_model.specs.Conditions.{condition_of};
-ghost use Rattle.sasi_model.specs.Filters.{answers, limited, row_limit};
+ghost use Rattle.sasi_model.specs.Filters.{answers, limited, row_limit, where_of};
 ghost use Rattle.sasi_model.specs.Lines.{rows_lines};
 ghost use Rattle.sasi_model.specs.Step.{select_lines, selected_columns};
 ghost use Rattle.sasi_schema.specs.Defined.{definition};
@@ -15,7 +15,7 @@ ghost use Rattle.sasi_machine.specs.Classes.{OnMissing, TableLacks, WhereLacks};
 ghost use Rattle.sasi_machine.specs.Operands.{CanSelect};
 ghost use Rattle.sasi_machine.specs.Picks.{pick};
 ghost use Rattle.sasi_machine.specs.TableRows.{is_full, rows_picked};
-ghost use Rattle.sasi_machine.specs.Where.{HasTexts, where_of};
+ghost use Rattle.sasi_machine.specs.Where.{HasTexts};
 
 use crate::conditions::conditions_of;
 use crate::limit::row_limit;

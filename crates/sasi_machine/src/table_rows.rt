@@ -1,11 +1,10 @@
 // The printed rows of a table.
 ghost use Rattle.std.specs.Prelude.{◌≡◌, ◌++◌, map as map_list, IfErr, IfOk, OnOk};
 ghost use Rattle.std.specs.FinMap as map;
-ghost use Rattle.sasi_model.specs.Filters.{limited};
+ghost use Rattle.sasi_model.specs.Filters.{limited, where_of};
 ghost use Rattle.sasi_model.specs.Lines.{rows_lines};
 ghost use Rattle.sasi_machine.specs.Classes.{OnMissing, WhereLacks};
 ghost use Rattle.sasi_machine.specs.TableRows.{ArePrinted, KeysStored, TextsStored, rows_picked};
-ghost use Rattle.sasi_machine.specs.Where.{where_of};
 
 use crate::{Reply, RowQuery};
 use sasi_analyzers::Kit;

@@ -6,7 +6,7 @@ use Rattle.sasi_types.specs.declared.literal.Number.{Number}
 use Rattle.sasi_types.specs.declared.literal.Number.TheVariants.{Fits}
 use Rattle.sasi_types.specs.declared.relation.Relation.{Relation}
 use Rattle.sasi_model.specs.Cells.{Partition, is_live}
-use Rattle.sasi_model.specs.Conditions.{Condition, condition_of, meets}
+use Rattle.sasi_model.specs.Conditions.{Condition, OfKey, Indexed, Plain, condition_of, meets}
 use Rattle.sasi_model.specs.State.{Definition}
 
 -- conditions that are joined by AND and OR; a WHERE of relations alone has an AND of them
@@ -39,9 +39,20 @@ abbrev pub leaves : List Condition → Filters
 leaves [] = no_filters
 leaves (condition ∷ conditions) = one_more (Leaf condition) (leaves conditions)
 
+-- the conditions of a WHERE, all of which a row has to meet
+abbrev pub where_of : List Condition → Filter
+where_of conditions = AllOf (leaves conditions)
+
+-- the bytes of the key that the first condition on the key asks for
+abbrev pub key_asked : List Condition → Option (List ℕ)
+key_asked [] = None
+key_asked (OfKey bytes ∷ conditions) = Some bytes
+key_asked (Indexed index search ∷ conditions) = key_asked conditions
+key_asked (Plain column comparison ∷ conditions) = key_asked conditions
+
 -- what the WHERE of a SELECT asks of the rows of a table
 abbrev pub filter_of : Definition → List Relation → Filter
-filter_of d relations = AllOf (leaves (map (condition_of d) relations))
+filter_of d relations = where_of (map (condition_of d) relations)
 
 -- the filter holds of the partition of a key
 abbrev pub accepts : Filter → List ℕ → Partition → Bool

@@ -20,6 +20,7 @@ pub mod Conditions
 pub mod Filters
 pub mod Lines
 pub mod Step
+pub mod Sessions
 pub mod Asked
 pub mod Abbreviations
 pub mod Codes

@@ -16,7 +16,7 @@ use Rattle.sasi_types.specs.declared.value.Value.TheVariants.{Text}
 use Rattle.sasi_types.specs.Value.{stored}
 use Rattle.sasi_types.specs.declared.statement.Select.{Select}
 use Rattle.sasi_types.specs.declared.statement.Statement.{Statement}
-use Rattle.sasi_types.specs.declared.statement.Statement.TheVariants.{CreateTable, CreateIndex, Insert, Update, Delete, Query, Flush}
+use Rattle.sasi_types.specs.declared.statement.Statement.TheVariants.{CreateTable, CreateIndex, Insert, Update, Delete, Query, Flush, Trace}
 use Rattle.sasi_model.specs.Pieces.{Piece}
 use Rattle.sasi_model.specs.Cells.{Cells, Partition, value_at}
 use Rattle.sasi_model.specs.State.{Column, Definition, Index, Table, State, decorated, table_of, with_table, position_in, number_of_column, key_column, apply, max_timestamp}
@@ -103,7 +103,7 @@ written s table time key change = with_table table (λ t. applied (option_and_th
 abbrev pub index_given : Definition → Option (List ℕ) → List ℕ → List ℕ → List IndexOption → Option Index
 index_given d name table column options = index_made (index_name name table column) (number_of_column d column) (type_of_column d column) options
 
--- an UPDATE writes the cells alone; a SELECT and a FLUSH write nothing, and no other statement is built
+-- an UPDATE writes the cells alone; a SELECT, a FLUSH and TRACE write nothing, and no other statement is built
 abbrev pub tables_after : State → Statement → List Table
 tables_after s (CreateTable table columns keys) =
     option_map_or (λ key. s.tables ++ empty_table (record { name = table; columns = columns; key = key; indexes = [] }) ∷ []) (primary_key columns keys) s.tables
@@ -125,6 +125,7 @@ answer_of s (Insert table columns values time) = line (codes "ok")
 answer_of s (Update table time sets key value) = line (codes "ok")
 answer_of s (Delete table columns time key value) = line (codes "ok")
 answer_of s (Flush table) = line (codes "ok")
+answer_of s (Trace on) = line (codes "ok")
 answer_of s statement = []
 
 -- ---- one piece

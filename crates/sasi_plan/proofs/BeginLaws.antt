@@ -16,7 +16,7 @@ use Rattle.sasi_sources.specs.Maps.{maps_in}
 use Rattle.sasi_views.specs.declared.part.Part as view
 use Rattle.sasi_candidates.specs.Candidates.{candidates}
 use Rattle.sasi_candidates.specs.Costs.{token_cost}
-use Rattle.sasi_candidates.specs.Groups.{key_asked, where_of}
+use Rattle.sasi_model.specs.Filters.{key_asked, where_of}
 use Rattle.sasi_recheck.specs.Sources.{Candidate, first_price}
 use Rattle.sasi_engine.specs.declared.relation.IndexedRelation.{IndexedRelation}
 use Rattle.sasi_engine.specs.Asked.{asked_of}

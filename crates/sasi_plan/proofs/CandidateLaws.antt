@@ -21,7 +21,7 @@ use Rattle.sasi_cells.proofs.Laws.Decorated.{entries_have, equal_keys, none_belo
 use Rattle.sasi_memtable.specs.MemtableView.{AreDecorated}
 use Rattle.sasi_merge.specs.Streams.{Entries, IsRising}
 use Rattle.sasi_candidates.specs.Candidates.{admits, candidates, is_candidate}
-use Rattle.sasi_candidates.specs.Groups.{key_asked, where_of}
+use Rattle.sasi_model.specs.Filters.{key_asked, where_of}
 use Rattle.sasi_candidates.specs.Parts.{Part, maps_of}
 use Rattle.sasi_engine.specs.Asked.{asked_of}
 use Rattle.sasi_sources.specs.KeyCandidates.{found_of}

@@ -13,10 +13,9 @@ use Rattle.sasi_cells.specs.declared.picked.Picked.{Picked}
 use Rattle.sasi_cells.specs.Rows as cells
 use Rattle.sasi_memindex.specs.Book.{Book}
 use Rattle.sasi_model.specs.Cells.{Partition, is_live}
-use Rattle.sasi_model.specs.Filters.{Filter, accepts, answers}
+use Rattle.sasi_model.specs.Filters.{Filter, accepts, answers, where_of}
 use Rattle.sasi_ranges.specs.StreamCalls.{Spends, StreamFaults}
 use Rattle.sasi_candidates.specs.Checks.{given, given_of}
-use Rattle.sasi_candidates.specs.Groups.{where_of}
 use Rattle.sasi_recheck.specs.Rows.{RecheckView}
 use Rattle.sasi_recheck.specs.Sources.{Candidate}
 use Rattle.sasi_plan.specs.declared.plan_fault.PlanFault.{PlanFault}

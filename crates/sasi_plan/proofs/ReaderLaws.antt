@@ -10,7 +10,7 @@ use Rattle.sasi_cells.specs.Maps.{merged}
 use Rattle.sasi_memindex.specs.Book.{Book}
 use Rattle.sasi_model.specs.Cells.{Partition}
 use Rattle.sasi_model.specs.Conditions.{Condition}
-use Rattle.sasi_model.specs.Filters.{answers}
+use Rattle.sasi_model.specs.Filters.{answers, key_asked, where_of}
 use Rattle.sasi_model.specs.State.{decorated}
 use Rattle.sasi_ranges.specs.StreamCalls.{Spends}
 use Rattle.sasi_scan.specs.Finding.{key_reads}
@@ -18,7 +18,7 @@ use Rattle.sasi_scan.specs.Paging.{table_reads}
 use Rattle.sasi_candidates.specs.Candidates.{candidates}
 use Rattle.sasi_candidates.specs.Checks.{checked, given, looked, rows}
 use Rattle.sasi_candidates.specs.Costs.{file_cost, files_of, token_cost}
-use Rattle.sasi_candidates.specs.Groups.{Group, groups, groups_with, key_asked, looks, rows_in, where_of}
+use Rattle.sasi_candidates.specs.Groups.{Group, groups, groups_with, looks, rows_in}
 use Rattle.sasi_candidates.specs.Parts.{maps_of}
 use Rattle.sasi_candidates.proofs.Answers.{answer_is_checked}
 use Rattle.sasi_candidates.proofs.GroupLaws.{groups_have}

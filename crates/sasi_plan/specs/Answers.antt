@@ -4,9 +4,8 @@ use Rattle.sasi_types.specs.declared.decorated_key.DecoratedKey.{DecoratedKey}
 use Rattle.sasi_host.specs.Names.{Folder}
 use Rattle.sasi_memindex.specs.Book.{Book}
 use Rattle.sasi_model.specs.Cells.{Partition}
-use Rattle.sasi_model.specs.Filters.{answers}
+use Rattle.sasi_model.specs.Filters.{answers, where_of}
 use Rattle.sasi_candidates.specs.Checks.{given, looked}
-use Rattle.sasi_candidates.specs.Groups.{where_of}
 use Rattle.sasi_recheck.specs.Rows.{RecheckView, counted_on}
 use Rattle.sasi_recheck.specs.Sources.{Candidate}
 

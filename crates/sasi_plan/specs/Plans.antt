@@ -8,7 +8,7 @@ use Rattle.sasi_model.specs.Abbreviations.{kind_of}
 use Rattle.sasi_model.specs.Conditions.{Condition}
 use Rattle.sasi_model.specs.Indexes.{index_on}
 use Rattle.sasi_model.specs.State.{Definition, decorated}
-use Rattle.sasi_candidates.specs.Groups.{key_asked}
+use Rattle.sasi_model.specs.Filters.{key_asked}
 use Rattle.sasi_candidates.proofs.Asking.{IsAskable}
 use Rattle.sasi_engine.specs.Asked.{Asked, asked_of}
 use Rattle.sasi_engine.specs.KeyedHits.{agree}

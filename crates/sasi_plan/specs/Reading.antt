@@ -20,7 +20,7 @@ use Rattle.sasi_scan.specs.Paging.{table_reads}
 use Rattle.sasi_scan.specs.Parts.{ShowsListed}
 use Rattle.sasi_candidates.specs.Candidates.{candidates}
 use Rattle.sasi_candidates.specs.Costs.{cost, file_cost, files_of, token_cost}
-use Rattle.sasi_candidates.specs.Groups.{key_asked, where_of}
+use Rattle.sasi_model.specs.Filters.{key_asked, where_of}
 use Rattle.sasi_candidates.specs.Parts.{maps_of}
 use Rattle.sasi_recheck.specs.Sources.{Candidate, first_price}
 use Rattle.sasi_engine.specs.declared.relation.IndexedRelation.{IndexedRelation}

@@ -8,7 +8,7 @@ ghost use Rattle.sasi_host.specs.Names.{Folder};
 ghost use Rattle.sasi_memindex.specs.Book.{Book};
 ghost use Rattle.sasi_ranges.specs.StreamCalls.{CanStream, HasStreamed, Spends, StreamFaults};
 ghost use Rattle.sasi_candidates.specs.Candidates.{candidates};
-ghost use Rattle.sasi_candidates.specs.Groups.{where_of};
+ghost use Rattle.sasi_model.specs.Filters.{where_of};
 ghost use Rattle.sasi_recheck.specs.Optional.{SourceOr};
 ghost use Rattle.sasi_recheck.specs.Sources.{Candidate, GivesFirst, GivesPrintable, first_price};
 ghost use Rattle.sasi_sources.specs.KeyCandidates.{HasKeyType};

@@ -11,7 +11,7 @@ ghost use Rattle.sasi_memindex.specs.Book.{Book};
 ghost use Rattle.sasi_model.specs.Cells.{Partition as SpecPartition};
 ghost use Rattle.sasi_ranges.specs.StreamCalls.{CanStream, HasStreamed, Spends, StreamFaults};
 ghost use Rattle.sasi_candidates.specs.Checks.{checked, rows};
-ghost use Rattle.sasi_candidates.specs.Groups.{where_of};
+ghost use Rattle.sasi_model.specs.Filters.{where_of};
 ghost use Rattle.sasi_candidates.specs.Parts.{maps_of};
 ghost use Rattle.sasi_recheck.specs.Rows.{KnowsWhere, counted_on};
 ghost use Rattle.sasi_recheck.specs.Sources.{GivesPrintable};

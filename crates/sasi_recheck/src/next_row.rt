@@ -1,8 +1,8 @@
 // The next row of candidates.
 ghost use Rattle.std.specs.Prelude.{◌≡◌, ◌+◌, ℕ, List, IfOk, OnOk, drop, map, sum, take};
 ghost use Rattle.sasi_types.specs.declared.column.ColumnType.{ColumnType};
-ghost use Rattle.sasi_model.specs.Filters.{accepts, answers};
-ghost use Rattle.sasi_machine.specs.Where.{HasTexts, where_of};
+ghost use Rattle.sasi_model.specs.Filters.{accepts, answers, where_of};
+ghost use Rattle.sasi_machine.specs.Where.{HasTexts};
 ghost use Rattle.sasi_ranges.specs.StreamCalls.{CanStream, HasStreamed, Spends, StreamFaults};
 ghost use Rattle.sasi_recheck.specs.Rows.{GivesRow, KnowsWhere, asked_to, counted_on, looked_to};
 ghost use Rattle.sasi_recheck.specs.Sources.{Candidate, GivesPrintable};

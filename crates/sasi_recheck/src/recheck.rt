@@ -1,8 +1,7 @@
 // Candidates that are rechecked.
 ghost use Rattle.std.specs.Prelude.{◌≡◌, ◌+◌, ℕ, List, IfOk, OnOk, drop, map, sum, take};
 ghost use Rattle.sasi_types.specs.declared.column.ColumnType.{ColumnType};
-ghost use Rattle.sasi_model.specs.Filters.{answers};
-ghost use Rattle.sasi_machine.specs.Where.{where_of};
+ghost use Rattle.sasi_model.specs.Filters.{answers, where_of};
 ghost use Rattle.sasi_ranges.specs.StreamCalls.{CanStream, HasStreamed, Spends, StreamFaults};
 ghost use Rattle.sasi_recheck.specs.Rows.{GivesAllowed, KnowsWhere, allowed_after, asked_in, counted_on, looked_in};
 ghost use Rattle.sasi_recheck.specs.Sources.{Candidate, GivesPrintable};

@@ -9,10 +9,10 @@ use Rattle.sasi_layout.specs.Between.{Between}
 use Rattle.sasi_layout.specs.Layout.{state_of}
 use Rattle.sasi_layout.specs.Running.{after_pieces}
 use Rattle.sasi_layout.specs.Classes.{HasNeeded, LacksNeeded}
-use Rattle.sasi_layout.specs.Serving.{StoreInMemory, known_in_memory}
+use Rattle.sasi_layout.specs.Serving.{known_in_memory}
 use Rattle.sasi_layout.specs.Statements.{known_in}
 use Rattle.sasi_layout.specs.Spent.{spent}
-use Rattle.sasi_layout.specs.Worlds.{ServesWorld, World, steps}
+use Rattle.sasi_store.specs.Worlds.{ServesWorld, World, steps}
 use Rattle.sasi_layout.proofs.StatementLaws.{known_is}
 use Rattle.sasi_model.specs.Pieces.{Piece}
 use Rattle.sasi_model.specs.Asked.{Asked, asks, class_needed}
@@ -46,18 +46,18 @@ use Rattle.sasi_run.proofs.RunParts.{appends_none, ran_both, ran_nothing, reads_
 -- what a store promises of a piece that it didn't do
 pub record StepFailed (kinds : List Class) (fault : StepFault) (session : Session) (a b : View) (piece : Piece) : Type 0 where
   pub change : Changes AnyFolderChange a b
-  pub moments : (w : World) → ServesWorld a session.store.memory w → Changes (λ x y. Between w.layout (steps.moves w piece) y) a b
-  pub spends : OnSpent (λ kind. (w : World) → ServesWorld a session.store.memory w → spent w.layout (steps.moves w piece) ≡ Some kind) fault
-  pub undamaged : (w : World) → ServesWorld a session.store.memory w → OnStepDamage (λ _. ⊥) fault
+  pub moments : (w : World) → ServesWorld a session.store.memory session.store.trace w → Changes (λ x y. Between w.layout (steps.moves w piece) y) a b
+  pub spends : OnSpent (λ kind. (w : World) → ServesWorld a session.store.memory session.store.trace w → spent w.layout (steps.moves w piece) ≡ Some kind) fault
+  pub undamaged : (w : World) → ServesWorld a session.store.memory session.store.trace w → OnStepDamage (λ _. ⊥) fault
   pub analyzer : OnSpent (λ kind. HasNeeded kinds (class_needed (asks (known_in_memory session.store.memory) piece))) fault
   pub lacks : OnMissing (LacksNeeded kinds (asks (known_in_memory session.store.memory) piece)) fault
 
 -- what the store judges a piece by is what is known of the layout that it serves
-known_served : (v : View) (store : StoreInMemory) (w : World) → ServesWorld v store w → known_in_memory store ≡ known_in w.layout
-known_served v store w serves = λ i. record { tables = serves.definitions i; max_timestamp = serves.timestamp i }
+known_served : (v : View) (store : StoreView) (w : World) → ServesWorld v store.memory store.trace w → known_in_memory store.memory ≡ known_in w.layout
+known_served v store w serves = λ i. record { tables = serves.serves.definitions i; max_timestamp = serves.serves.timestamp i }
 
 stopped_moving : {kinds : List Class} (f : StepFault) (session : Session) (a b : View) (piece : Piece) → StepFailed kinds f session a b piece → (w : World)
-    → ServesWorld a session.store.memory w → StoppedPieces kinds (stop_of f) w [] (piece ∷ []) a b
+    → ServesWorld a session.store.memory session.store.trace w → StoppedPieces kinds (stop_of f) w [] (piece ∷ []) a b
 stopped_moving fault.Failed session a b piece failed w serves = record {
   shown = unmoved a b failed.change.emitted;
   crashes = leaves_moved a b w piece (failed.moments w serves);
@@ -76,7 +76,7 @@ stopped_moving {kinds} (fault.AnalyzerMissing class) session a b piece failed w 
     piece,
     refl,
     unmoved a b failed.change.emitted,
-    subst (λ (known : Known). LacksNeeded kinds (asks known piece) class) (known_served a session.store.memory w serves) failed.lacks,
+    subst (λ (known : Known). LacksNeeded kinds (asks known piece) class) (known_served a session.store w serves) failed.lacks,
   );
   crashes = leaves_moved a b w piece (failed.moments w serves);
   emits = makes_behind_none 0 a.emits b.emits (makes_none a.emits b.emits failed.change.emits);
@@ -87,7 +87,7 @@ stopped_moving {kinds} (fault.NumbersSpent kind) session a b piece failed w serv
     piece,
     refl,
     unmoved a b failed.change.emitted,
-    subst (λ (known : Known). HasNeeded kinds (class_needed (asks known piece))) (known_served a session.store.memory w serves) failed.analyzer,
+    subst (λ (known : Known). HasNeeded kinds (class_needed (asks known piece))) (known_served a session.store w serves) failed.analyzer,
     failed.spends w serves,
   );
   crashes = leaves_moved a b w piece (failed.moments w serves);
@@ -123,17 +123,17 @@ fails_moving f session a b piece failed = record {
 -- what a store promises of a piece that it did
 pub record StepDone (kinds : List Class) (session : Session) (later : StoreView) (a b : View) (piece : Piece) (reply : List ℕ) (outcome : Outcome) : Type 0 where
   pub change : Changes AnyFolderChange a b
-  pub moments : (w : World) → ServesWorld a session.store.memory w → Changes (λ x y. Between w.layout (steps.moves w piece) y) a b
-  pub answers : (w : World) → ServesWorld a session.store.memory w → Answered b later.memory w piece reply outcome
+  pub moments : (w : World) → ServesWorld a session.store.memory session.store.trace w → Changes (λ x y. Between w.layout (steps.moves w piece) y) a b
+  pub answers : (w : World) → ServesWorld a session.store.memory session.store.trace w → Answered b later.memory later.trace w piece reply outcome
   pub anywhere : (s : State) → IsOfState session.store s → AnsweredButRows later.memory s piece reply outcome
   pub analyzer : HasNeeded kinds (class_needed (asks (known_in_memory session.store.memory) piece))
 
 module _ {kinds : List Class} (session : Session) (later : StoreView) (a b d : View) (piece : Piece) (reply bytes : List ℕ) (outcome : Outcome)
     (done : StepDone kinds session later a b piece reply outcome) (same : bytes ≡ reply) (emits : Emits bytes b d) where
-  crashes : (w : World) → ServesWorld a session.store.memory w → CrashLeavesPieces a d w (piece ∷ [])
+  crashes : (w : World) → ServesWorld a session.store.memory session.store.trace w → CrashLeavesPieces a d w (piece ∷ [])
   crashes w serves =
       let is = done.answers w serves in
-      leaves_answered a b w piece (done.moments w serves) d bytes (same ∙ is.reply_is) (each_of_shape b later.memory _ is.serves) emits
+      leaves_answered a b w piece (done.moments w serves) d bytes (same ∙ is.reply_is) (each_of_shape b later.memory _ is.serves.serves) emits
 
   -- the reply was not emitted whole
   pub fails_shown : d.emits ≡ counted b.emits → FailsCrashSafe kinds Output session a d (piece ∷ [])
@@ -185,7 +185,7 @@ module _ {kinds : List Class} (session : Session) (later : StoreView) (a b d : V
     ran = λ w serves.
         (let is = done.answers w serves in
         record {
-          serves = rw store_is (serves_still b d later.memory _ emits.files emits.image is.serves);
+          serves = rw store_is (record { serves = serves_still b d later.memory _ emits.files emits.image is.serves.serves; trace_is = is.serves.trace_is });
           shown = subst (λ (r : List ℕ). Appends a.emitted d.emitted r) (same ∙ is.reply_is ∙ sym (append-nil (steps.reply w piece)))
               (subst (λ (l : Option (List ℕ)). Appends l d.emitted bytes) done.change.emitted all);
           count = count ∙ ap (counted_outcome session.refused) is.outcome_is ∙ counts session.refused (step (state_of w.layout) piece).refused small;
@@ -194,7 +194,7 @@ module _ {kinds : List Class} (session : Session) (later : StoreView) (a b d : V
               (makes_reply a.emits d.emits (steps.reply w piece) (emits_reply a.emits b.emits d.emits bytes (steps.reply w piece) done.change.emits (same ∙ is.reply_is) call));
           supplied = (
             record {
-              analyzer = subst (λ (known : Known). HasNeeded kinds (class_needed (asks known piece))) (known_served a session.store.memory w serves) done.analyzer;
+              analyzer = subst (λ (known : Known). HasNeeded kinds (class_needed (asks known piece))) (known_served a session.store w serves) done.analyzer;
               numbers = is.unspent;
             },
             tt,
@@ -340,5 +340,5 @@ stops_later stop old mid a b c bytes xs ys rest t u parts = record {
 -- ---- the state of a store
 
 -- the state of the world that a store serves has its definitions and its largest timestamp
-pub state_served : (v : View) (store : StoreInMemory) (w : World) → ServesWorld v store w → IsStateOf (known_in_memory store) (state_of w.layout)
+pub state_served : (v : View) (store : StoreView) (w : World) → ServesWorld v store.memory store.trace w → IsStateOf (known_in_memory store.memory) (state_of w.layout)
 state_served v store w serves = sym (known_is w.layout) ∙ sym (known_served v store w serves)

@@ -13,7 +13,7 @@ use Rattle.sasi_folder.specs.Opens.{CanOpen, KeepsPartitioner}
 use Rattle.sasi_folder.specs.FolderContents.{IsSealed}
 use Rattle.sasi_layout.specs.Layout.{Layout}
 use Rattle.sasi_layout.specs.Shape.{ShapeOf}
-use Rattle.sasi_layout.specs.Worlds.{ServesWorld, new_world}
+use Rattle.sasi_store.specs.Worlds.{ServesWorld, new_world}
 use Rattle.sasi_model.specs.Parsers.{grammar_parser}
 use Rattle.sasi_model.specs.State.{State}
 use Rattle.sasi_recover.specs.Faults.{OnDiffers, OnMissing, OnOpenDamage, TellsDifference, TellsMissing}
@@ -188,7 +188,7 @@ pub record OpenDone (words : List (List ℕ)) (kinds : List Class) (store : Stor
   pub silent : b.emitted ≡ a.emitted
   pub none_out : b.emits ≡ a.emits
   pub opens : (folder : Folder) → a.files ≡ Some folder → CanOpen folder
-  pub serves : (folder : Folder) (l : Layout) → a.files ≡ Some folder → ShapeOf (asked_by words) folder l → ServesWorld b store.memory (new_world l)
+  pub serves : (folder : Folder) (l : Layout) → a.files ≡ Some folder → ShapeOf (asked_by words) folder l → ServesWorld b store.memory store.trace (new_world l)
   pub agrees : (folder : Folder) (wanted kept : Partitioner) → a.files ≡ Some folder → asked_by words ≡ Some wanted → KeepsPartitioner folder kept → wanted ≢ kept → ⊥
   pub complete : (folder : Folder) (class : Class) → a.files ≡ Some folder → LacksClass kinds folder class → ⊥
 

@@ -4,7 +4,7 @@ use Rattle.std.specs.Io.KnownBytes.{Appends}
 use Rattle.sasi_types.specs.declared.class.Class.{Class}
 use Rattle.sasi_layout.specs.Layout.{Layout, state_of}
 use Rattle.sasi_layout.specs.NumbersInOrder.{HasNumbersInOrder}
-use Rattle.sasi_layout.specs.Worlds.{new_world}
+use Rattle.sasi_store.specs.Worlds.{new_world}
 use Rattle.sasi_model.specs.Parsers.{grammar_parser}
 use Rattle.sasi_host.specs.Names.{Folder}
 use Rattle.sasi_host.specs.View.{SourceView, View}

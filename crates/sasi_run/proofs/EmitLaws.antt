@@ -3,7 +3,7 @@ use Rattle.std.proofs.Common.{◌≡◌, ◌==◌, ◌+◌, ◌∙◌, ℕ, zero
 use Rattle.sasi_host.specs.View.{counted, counted_by}
 use Rattle.sasi_model.specs.Pieces.{Piece}
 use Rattle.sasi_layout.specs.Running.{after_pieces}
-use Rattle.sasi_layout.specs.Worlds.{World, steps}
+use Rattle.sasi_store.specs.Worlds.{World, steps}
 use Rattle.sasi_run.specs.EmitCounts.{MakesEmits, emits_in, emits_of}
 use Rattle.sasi_run.specs.FileCalls.{emits_after}
 use Rattle.sasi_run.proofs.Worlds.{emits_both}

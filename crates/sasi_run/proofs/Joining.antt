@@ -5,7 +5,7 @@ use Rattle.std.proofs.lemmas.List.{append-nil}
 use Rattle.std.proofs.Math.Seq.{take-append_seam, drop-append_seam}
 use Rattle.sasi_model.specs.Pieces.{Piece}
 use Rattle.sasi_layout.specs.Running.{after_pieces, replies_of}
-use Rattle.sasi_layout.specs.Worlds.{Transitions}
+use Rattle.sasi_layout.specs.Transitions.{Transitions}
 use Rattle.sasi_run.specs.Recovering.{next_reply}
 use Rattle.sasi_run.specs.Shapes.{answers_of}
 

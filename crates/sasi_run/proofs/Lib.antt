@@ -9,7 +9,6 @@ pub mod Complete
 pub mod ButRows
 pub mod Answering
 pub mod RunsAtEnd
-pub mod TailLaws
 pub mod SilentPieces
 pub mod Moments
 pub mod Recovering

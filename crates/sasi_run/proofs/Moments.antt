@@ -15,7 +15,8 @@ use Rattle.sasi_layout.specs.Running.{IsBusy, IsMoving, IsQuiet, after_pieces, r
 use Rattle.sasi_layout.specs.Shape.{IsOfShape, StandsSealed}
 use Rattle.sasi_layout.specs.Statements.{known_in, moves_asked, moves_of}
 use Rattle.sasi_layout.specs.NumbersInOrder.{HasNumbersInOrder}
-use Rattle.sasi_layout.specs.Worlds.{Transitions, steps}
+use Rattle.sasi_layout.specs.Transitions.{Transitions}
+use Rattle.sasi_store.specs.Worlds.{steps}
 use Rattle.sasi_layout.proofs.LayoutLaws.{bare_state}
 use Rattle.sasi_layout.proofs.StatementLaws.{front_state_by, step_in_order}
 use Rattle.sasi_run.proofs.SilentPieces.{silent_piece}
@@ -128,7 +129,7 @@ pub record StepsByState {W : Type 0} (t : Transitions W) : Type 1 where
 abbrev pub by_state : StepsByState steps
 by_state = record {
   IsValid = λ w. HasNumbersInOrder w.layout;
-  valid = step_in_order;
+  valid = λ w piece in_order. step_in_order grammar_parser w.layout piece in_order;
   either = λ w piece done rest in_order parts. piece_either w.layout piece done rest parts in_order;
   silent = silent_piece;
 }

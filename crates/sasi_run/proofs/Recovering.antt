@@ -8,7 +8,7 @@ use Rattle.sasi_model.specs.Pieces.{Piece}
 use Rattle.sasi_model.specs.State.{State}
 use Rattle.sasi_layout.specs.Running.{after_pieces, replies_of}
 use Rattle.sasi_layout.specs.Shape.{StandsSealed}
-use Rattle.sasi_layout.specs.Worlds.{Transitions}
+use Rattle.sasi_layout.specs.Transitions.{Transitions}
 use Rattle.sasi_run.specs.Recovering.{IsReplyCount, IsPartOfNextReply, next_reply}
 use Rattle.sasi_run.specs.Shapes.{answers_of}
 use Rattle.sasi_run.proofs.Joining.{after-append, first_replies_are, length-answers, next_reply_is, nil_back, nil_front, replies-append}

@@ -8,7 +8,7 @@ use Rattle.sasi_types.specs.declared.class.Class.{Class}
 use Rattle.sasi_host.specs.View.{View}
 use Rattle.sasi_layout.specs.Layout.{state_of}
 use Rattle.sasi_layout.specs.Running.{replies_of}
-use Rattle.sasi_layout.specs.Worlds.{World, steps}
+use Rattle.sasi_store.specs.Worlds.{World, steps}
 use Rattle.sasi_model.specs.Pieces.{Piece, Pieces, pieces, all_pieces}
 use Rattle.sasi_cql.specs.SplitterState.{resume, behind}
 use Rattle.sasi_cql.proofs.Resumed.{resume_nothing}

@@ -14,7 +14,7 @@ use Rattle.sasi_layout.specs.Moves.{Move, after_moves}
 use Rattle.sasi_layout.specs.Running.{Crashed, IsBusy, IsQuiet, after_pieces, replies_of}
 use Rattle.sasi_layout.specs.Serving.{Serves, StoreInMemory}
 use Rattle.sasi_layout.specs.Shape.{IsOfShape}
-use Rattle.sasi_layout.specs.Worlds.{World, steps}
+use Rattle.sasi_store.specs.Worlds.{World, steps}
 use Rattle.sasi_store.specs.StoreView.{IsReady, StoreView}
 use Rattle.sasi_run.specs.Crashing.{CrashLeavesPieces}
 use Rattle.sasi_run.proofs.Worlds.{after_both, replies_both}

@@ -14,7 +14,7 @@ use Rattle.sasi_layout.specs.Between.{Between}
 use Rattle.sasi_layout.specs.Layout.{state_of}
 use Rattle.sasi_layout.specs.Running.{after_pieces, replies_of}
 use Rattle.sasi_layout.specs.Serving.{Ended, closed}
-use Rattle.sasi_layout.specs.Worlds.{ServesWorld, World, steps}
+use Rattle.sasi_store.specs.Worlds.{ServesWorld, World, steps}
 use Rattle.sasi_model.specs.Pieces.{Piece, pieces, all_pieces}
 use Rattle.sasi_model.specs.Parsers.{grammar_parser}
 use Rattle.sasi_model.specs.State.{State}
@@ -129,7 +129,7 @@ ends_script {kinds} from mid to l l1 l2 a b c n none fresh on few ate empty end 
 
 module _ {kinds : List Class} (from to : Session) (l l2 : Option (List ℕ)) (a b c : View) (fresh : IsAtScriptStart from) (on : RanScript kinds from to l l2 a b)
     (silent : c.emitted ≡ b.emitted) (none_out : c.emits ≡ b.emits)
-    (moments : (w : World) → ServesWorld b to.store.memory w → Changes (λ x y. Between w.layout [] y) b c) where
+    (moments : (w : World) → ServesWorld b to.store.memory to.store.trace w → Changes (λ x y. Between w.layout [] y) b c) where
   -- nothing was emitted since
   appends_on : (shown : List ℕ) → Appends a.emitted b.emitted shown → Appends a.emitted c.emitted shown
   appends_on shown p = subst (λ (o : Option (List ℕ)). Appends a.emitted o shown) (sym silent) p
@@ -138,7 +138,7 @@ module _ {kinds : List Class} (from to : Session) (l l2 : Option (List ℕ)) (a 
   of_script : (P : List Piece → Type 0) → P (all_pieces on.read) → P (all_pieces (script_of l on.read))
   of_script P p = subst (λ (bytes : List ℕ). P (all_pieces bytes)) (sym (script_whole l l2 on.read on.consumed on.at_end)) p
 
-  module _ (w : World) (serves : ServesWorld a from.store.memory w) where
+  module _ (w : World) (serves : ServesWorld a from.store.memory from.store.trace w) where
     crashes : CrashLeavesPieces a c w (all_pieces on.read)
     crashes =
         let ran = on.ran w serves in
@@ -161,7 +161,7 @@ module _ {kinds : List Class} (from to : Session) (l l2 : Option (List ℕ)) (a 
     all_shown : (n : ℕ) → to.refused ≡ n → EmitsAllReplies grammar_parser (first_of all_answers) (state_of w.layout) on.read (replies_of steps w (all_pieces on.read)) n
     all_shown n is =
         let count : to.refused ≡ counted_by from.refused (refusals_of w (all_pieces on.read)) = (on.ran w serves).count in
-        let by_model : refusals_of w (all_pieces on.read) ≡ refusals (state_of w.layout) (all_pieces on.read) = refusals_are (all_pieces on.read) w serves.in_order in
+        let by_model : refusals_of w (all_pieces on.read) ≡ refusals (state_of w.layout) (all_pieces on.read) = refusals_are (all_pieces on.read) w serves.serves.in_order in
         record {
           all = first_shown steps w (all_pieces on.read) [] (all_pieces (script_of l on.read)) all_read_are;
           count = omega (arith, is, count, by_model, fresh.count);
@@ -188,7 +188,7 @@ module _ {kinds : List Class} (from to : Session) (l l2 : Option (List ℕ)) (a 
 
   -- ---- the use of the store was ended
 
-  module _ (ends : (w : World) → ServesWorld b to.store.memory w → Ended c (closed w.layout)) where
+  module _ (ends : (w : World) → ServesWorld b to.store.memory to.store.trace w → Ended c (closed w.layout)) where
     ended_by : (none : Bool) → nat_eq to.refused 0 ≡ none → RunsCrashSafe kinds (cond none Done (Refused to.refused)) from.store l l2 a c
     ended_by true is =
         let zero_is : to.refused ≡ 0 = grind arith in
@@ -209,7 +209,7 @@ module _ {kinds : List Class} (from to : Session) (l l2 : Option (List ℕ)) (a 
                 };
                 replied = refl;
                 crashes = of_script (λ ps. CrashLeavesPieces a c w ps) (crashes w serves);
-                told = λ _. told_after _ b c (moments (after_pieces steps w (all_pieces on.read)) ran.serves) ran.serves.told;
+                told = λ _. told_after _ b c (moments (after_pieces steps w (all_pieces on.read)) ran.serves) ran.serves.serves.told;
                 ends = λ _. of_script (λ ps. Ended c (closed (after_pieces steps w ps).layout)) (ends (after_pieces steps w (all_pieces on.read)) ran.serves);
                 emits = record { answered = all_pieces on.read; by_status = refl; emits = emits_all w serves };
                 needs = of_script (λ ps. AreSupplied kinds w ps) ran.supplied;
@@ -236,7 +236,7 @@ module _ {kinds : List Class} (from to : Session) (l l2 : Option (List ℕ)) (a 
                 };
                 replied = refl;
                 crashes = of_script (λ ps. CrashLeavesPieces a c w ps) (crashes w serves);
-                told = λ _. told_after _ b c (moments (after_pieces steps w (all_pieces on.read)) ran.serves) ran.serves.told;
+                told = λ _. told_after _ b c (moments (after_pieces steps w (all_pieces on.read)) ran.serves) ran.serves.serves.told;
                 ends = λ _. of_script (λ ps. Ended c (closed (after_pieces steps w ps).layout)) (ends (after_pieces steps w (all_pieces on.read)) ran.serves);
                 emits = record { answered = all_pieces on.read; by_status = refl; emits = emits_all w serves };
                 needs = of_script (λ ps. AreSupplied kinds w ps) ran.supplied;

@@ -15,7 +15,7 @@ use Rattle.sasi_layout.specs.Running.{Crashed, after_pieces, replies_of}
 use Rattle.sasi_layout.specs.Serving.{Ended, closed}
 use Rattle.sasi_layout.specs.Shape.{ShapeOf, Stands}
 use Rattle.sasi_layout.specs.NumbersInOrder.{HasNumbersInOrder}
-use Rattle.sasi_layout.specs.Worlds.{ServesWorld, new_world, steps}
+use Rattle.sasi_store.specs.Worlds.{ServesWorld, new_world, steps}
 use Rattle.sasi_layout.proofs.LayoutLaws.{bare_state}
 use Rattle.sasi_model.specs.Pieces.{Piece, all_pieces}
 use Rattle.sasi_model.specs.State.{State}
@@ -31,7 +31,7 @@ use Rattle.sasi_run.specs.Crashing.{CrashLeavesPieces, IsOfState, RunsCrashSafe,
 use Rattle.sasi_run.specs.Headline.{AreReplies, EmitsByStatus, EmitsFirstReplies, EndsWith, Headline, RanToEnd, ReadsToEnd, Replies, Runs, RunsAsModel, RunsFrom, StartsFrom, but_rows, first_of, script_of, status_of_fault}
 use Rattle.sasi_run.specs.Recovering.{IsStateAfter, Recovers}
 use Rattle.sasi_run.specs.Shapes.{answers_of, HasShapeOfImage, LeavesShape, Shapes, StandsForEnd, StartsFromLayout}
-use Rattle.sasi_run.specs.Tails.{new_session}
+use Rattle.sasi_model.specs.Sessions.{new_session}
 use Rattle.sasi_run.specs.declared.status.Status.{Status}
 use Rattle.sasi_run.specs.declared.status.Status.TheVariants.{Usage}
 use Rattle.sasi_run.proofs.ConsumedBytes.{consumes_nothing}
@@ -305,18 +305,18 @@ by_layout_behind status l left later b a c same on =
 
 -- it was opened, and the script run
 runs_opened : {kinds : List Class} (asked : Option Partitioner) (status : Status) (a b c : View) (m : Layout) (store : StoreView) (l l2 : Option (List ℕ)) → IsSound a
-    → StartsFromLayout asked a m → Changes (UnchangedOrShaped asked m) a b → ServesWorld b store.memory (new_world m) → IsSound c
+    → StartsFromLayout asked a m → Changes (UnchangedOrShaped asked m) a b → ServesWorld b store.memory store.trace (new_world m) → IsSound c
     → RunsWorld kinds status (new_world m) l l2 b c → RunsWhole asked status m l l2 a c
 unfolding by_layout_behind
 runs_opened asked status a b c m store l l2 sound starts change serves sound_c on = record {
   by_layout = by_layout_behind status m l l2 b a c change.emitted on;
   crash = λ before emitted folder out left.
       subst (λ (rs : List (List ℕ)). Recovers Stands grammar_parser asked a (state_of m) (all_pieces (script_of l on.runs.read)) rs before folder out) (sym on.replied)
-      (recovers asked a m starts before emitted (all_pieces (script_of l on.runs.read)) serves.in_order folder out
+      (recovers asked a m starts before emitted (all_pieces (script_of l on.runs.read)) serves.serves.in_order folder out
       (leaves_run asked a m starts before emitted (all_pieces (script_of l on.runs.read)) b c sound change on.crashes folder out left));
   shapes = λ before emitted folder out left. leaves_run asked a m starts before emitted (all_pieces (script_of l on.runs.read)) b c sound change on.crashes folder out left;
   ends = λ ran. stands_for_end c (after_pieces steps (new_world m) (all_pieces (script_of l on.runs.read))).layout _ sound_c (on.told ran) (on.ends ran)
-      (state_is (all_pieces (script_of l on.runs.read)) (new_world m) serves.in_order);
+      (state_is (all_pieces (script_of l on.runs.read)) (new_world m) serves.serves.in_order);
 }
 
 -- ---- from each layout
@@ -349,13 +349,13 @@ whole_unopened asked fault script a b sound silent change = record {
 pub whole_opened : {kinds : List Class} (asked : Option Partitioner) (status : Status) (script later : SourceView) (a b c : View) (store : StoreView) (s : State) → IsOfState store s → IsSound a → IsSound c
     → b.emitted ≡ a.emitted
     → ((folder : Folder) (l : Layout) → a.files ≡ Some folder → ShapeOf asked folder l → Changes (UnchangedOrShaped asked l) a b)
-    → ((folder : Folder) (l : Layout) → a.files ≡ Some folder → ShapeOf asked folder l → ServesWorld b store.memory (new_world l))
+    → ((folder : Folder) (l : Layout) → a.files ≡ Some folder → ShapeOf asked folder l → ServesWorld b store.memory store.trace (new_world l))
     → RunsCrashSafe kinds status store script.left later.left b c → Whole asked status script later a c
 whole_opened asked status script later a b c store s of sound sound_c silent change opened on = record {
   on_every_host = (s, moved (but_rows grammar_parser) status s script.left later.left b.emitted a.emitted c.emitted silent (on.anywhere s of));
   as_it_reads = λ folder l files shape.
       (let serves = opened folder l files shape in
-      replies_as_model status l script.left later.left a.emitted c.emitted serves.in_order
+      replies_as_model status l script.left later.left a.emitted c.emitted serves.serves.in_order
       (by_layout_behind status l script.left later.left b a c silent (on.from (new_world l) serves)));
   shows = λ l starts.
       (let serves = opened starts.folder l starts.reads starts.shape in

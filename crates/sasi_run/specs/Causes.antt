@@ -12,7 +12,7 @@ use Rattle.sasi_folder.specs.Opens.{CanOpen, KeepsPartitioner}
 use Rattle.sasi_folder.specs.FolderContents.{IsSealed}
 use Rattle.sasi_layout.specs.Layout.{Layout, state_of}
 use Rattle.sasi_layout.specs.Shape.{ShapeOf}
-use Rattle.sasi_layout.specs.Worlds.{new_world}
+use Rattle.sasi_store.specs.Worlds.{new_world}
 use Rattle.sasi_recover.specs.KeptListed.{KeepsListed}
 use Rattle.sasi_recover.specs.NewFolder.{IsForeign}
 use Rattle.sasi_recover.specs.Promises.{LacksClass}

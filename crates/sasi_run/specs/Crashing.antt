@@ -14,7 +14,7 @@ use Rattle.sasi_cql.specs.SplitterState.{resume}
 use Rattle.sasi_layout.specs.Layout.{state_of}
 use Rattle.sasi_layout.specs.Running.{Crashed, after_pieces, replies_of}
 use Rattle.sasi_layout.specs.Serving.{Ended, closed, known_in_memory}
-use Rattle.sasi_layout.specs.Worlds.{ServesWorld, World, steps}
+use Rattle.sasi_store.specs.Worlds.{ServesWorld, World, steps}
 use Rattle.sasi_store.specs.StoreView.{IsReady, StoreView}
 use Rattle.sasi_run.specs.declared.session.Session.{Session}
 use Rattle.sasi_run.specs.declared.session.Stop.{Stop}
@@ -69,7 +69,7 @@ LacksAtStop kinds stop = Unit {0}
 
 -- From a world that the store served these pieces were run: their replies were emitted, and the store serves the world after them.
 pub record RanPieces (kinds : List Class) (w : World) (pieces : List Piece) (old new : Session) (a b : View) : Type 0 where
-  pub serves : ServesWorld b new.store.memory (after_pieces steps w pieces)
+  pub serves : ServesWorld b new.store.memory new.store.trace (after_pieces steps w pieces)
   pub shown : Appends a.emitted b.emitted (replies_of steps w pieces)
   pub count : new.refused ≡ counted_by old.refused (refusals_of w pieces)
   pub crashes : CrashLeavesPieces a b w pieces
@@ -88,12 +88,12 @@ pub record AnswersCrashSafe (kinds : List Class) (old new : Session) (a b : View
   pub reading : new.splitter ≡ old.splitter
   pub anywhere : (s : State) → IsOfState old.store s → RanButRows s (piece ∷ []) old new a b
   pub ready : IsReady b new.store
-  pub ran : (w : World) → ServesWorld a old.store.memory w → RanPieces kinds w (piece ∷ []) old new a b
+  pub ran : (w : World) → ServesWorld a old.store.memory old.store.trace w → RanPieces kinds w (piece ∷ []) old new a b
 
 -- it stopped in these pieces
 pub record FailsCrashSafe (kinds : List Class) (stop : Stop) (old : Session) (a b : View) (next : List Piece) : Type 0 where
   pub anywhere : (s : State) → IsOfState old.store s → StoppedButRows stop s [] next a b
-  pub stopped : (w : World) → ServesWorld a old.store.memory w → StoppedPieces kinds stop w [] next a b
+  pub stopped : (w : World) → ServesWorld a old.store.memory old.store.trace w → StoppedPieces kinds stop w [] next a b
   pub lacks : LacksAtStop kinds stop
 
 -- it was fed these bytes
@@ -101,20 +101,20 @@ pub record FeedsCrashSafe (kinds : List Class) (old new : Session) (a b : View) 
   pub feeds : Feeds old new bytes
   pub anywhere : (s : State) → IsOfState old.store s → RanButRows s feeds.done old new a b
   pub ready : IsReady b new.store
-  pub ran : (w : World) → ServesWorld a old.store.memory w → RanPieces kinds w feeds.done old new a b
+  pub ran : (w : World) → ServesWorld a old.store.memory old.store.trace w → RanPieces kinds w feeds.done old new a b
 
 -- it stopped within them
 pub record StopsCrashSafe (kinds : List Class) (stop : Stop) (old : Session) (a b : View) (bytes : List ℕ) : Type 0 where
   pub stops : Stops old bytes
   pub anywhere : (s : State) → IsOfState old.store s → StoppedButRows stop s stops.done stops.next a b
-  pub stopped : (w : World) → ServesWorld a old.store.memory w → StoppedPieces kinds stop w stops.done stops.next a b
+  pub stopped : (w : World) → ServesWorld a old.store.memory old.store.trace w → StoppedPieces kinds stop w stops.done stops.next a b
   pub lacks : LacksAtStop kinds stop
 
 -- it has run the last piece, if anything was left of one
 pub record FinishesCrashSafe (kinds : List Class) (old new : Session) (a b : View) : Type 0 where
   pub anywhere : (s : State) → IsOfState old.store s → RanButRows s (resume old.splitter []).last old new a b
   pub ready : IsReady b new.store
-  pub ran : (w : World) → ServesWorld a old.store.memory w → RanPieces kinds w (resume old.splitter []).last old new a b
+  pub ran : (w : World) → ServesWorld a old.store.memory old.store.trace w → RanPieces kinds w (resume old.splitter []).last old new a b
 
 -- so many bytes were read and fed to the session
 pub record ReadsCrashSafe (kinds : List Class) (from to : Session) (left_old left_new : Option (List ℕ)) (a b : View) (count : ℕ) : Type 0 where
@@ -161,7 +161,7 @@ pub record RanScript (kinds : List Class) (from to : Session) (left_old left_new
   pub at_end : IsAtEnd left_new
   pub anywhere : (s : State) → IsOfState from.store s → RanButRows s (all_pieces read) from to a b
   pub ready : IsReady b to.store
-  pub ran : (w : World) → ServesWorld a from.store.memory w → RanPieces kinds w (all_pieces read) from to a b
+  pub ran : (w : World) → ServesWorld a from.store.memory from.store.trace w → RanPieces kinds w (all_pieces read) from to a b
 
 -- From a world that the store served the run showed as many of its replies as its status says, by so many emits, and a crash meanwhile leaves no more than the pieces of the script do.
 pub record RunsWorld (kinds : List Class) (status : Status) (w : World) (left_old left_new : Option (List ℕ)) (a b : View) : Type 0 where
@@ -178,5 +178,5 @@ pub record RunsWorld (kinds : List Class) (status : Status) (w : World) (left_ol
 -- the run of a store from each state that it was of, and from each world that it served
 pub record RunsCrashSafe (kinds : List Class) (status : Status) (store : StoreView) (left_old left_new : Option (List ℕ)) (a b : View) : Type 0 where
   pub anywhere : (s : State) → IsOfState store s → Runs grammar_parser (but_rows grammar_parser) status s left_old left_new a.emitted b.emitted
-  pub from : (w : World) → ServesWorld a store.memory w → RunsWorld kinds status w left_old left_new a b
+  pub from : (w : World) → ServesWorld a store.memory store.trace w → RunsWorld kinds status w left_old left_new a b
   pub lacks : (class : Class) → status ≡ AnalyzerMissing class → has_class class kinds ≡ false

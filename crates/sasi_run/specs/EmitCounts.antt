@@ -4,7 +4,7 @@ use Rattle.sasi_host.specs.View.{View, counted_by}
 use Rattle.sasi_model.specs.Pieces.{Piece, pieces, all_pieces}
 use Rattle.sasi_model.specs.State.{State}
 use Rattle.sasi_model.specs.Parsers.{Parser, IsParser}
-use Rattle.sasi_layout.specs.Worlds.{World, steps}
+use Rattle.sasi_store.specs.Worlds.{World, steps}
 use Rattle.sasi_run.specs.Headline.{EmitsBeforePiece, EmitsCutReply, EmitsFirstReplies, RunsAsModel, SCRIPT_MOST, first_of, script_of}
 use Rattle.sasi_run.specs.declared.status.Status.{Status}
 use Rattle.sasi_run.specs.declared.status.Status.TheVariants.{Done, Refused, Usage, ScriptFault, FolderFault, OutputFault, OutOfMemory, Damaged, AnalyzerMissing, PartitionerDiffers, NumbersSpent, ScriptTooLong}

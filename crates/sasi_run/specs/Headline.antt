@@ -15,7 +15,7 @@ use Rattle.sasi_recover.specs.declared.fault.OpenFault.{OpenFault}
 use Rattle.sasi_recover.specs.declared.fault.OpenFault.TheVariants as open_fault
 use Rattle.sasi_store.specs.Answers.{PrintsRows}
 use Rattle.sasi_run.specs.Recovering.{Recovers, StandsRelation, next_reply}
-use Rattle.sasi_run.specs.Tails.{SessionState, new_session, reply_by, session_by}
+use Rattle.sasi_model.specs.Sessions.{SessionState, new_session, reply_by, session_by}
 use Rattle.sasi_run.specs.declared.session.Stop.{Stop}
 use Rattle.sasi_run.specs.declared.session.Stop.TheVariants.{Disk, Output, Memory, Corrupt, Spent, Missing}
 use Rattle.sasi_run.specs.declared.status.Status.{Status}

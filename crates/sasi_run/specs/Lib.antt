@@ -1,4 +1,3 @@
-pub mod Tails
 pub mod Headline
 pub mod Causes
 pub mod StatusCodes

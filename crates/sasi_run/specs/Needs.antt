@@ -9,7 +9,7 @@ use Rattle.sasi_layout.specs.declared.number_kind.NumberKind.{NumberKind}
 use Rattle.sasi_layout.specs.Running.{after_pieces, replies_of}
 use Rattle.sasi_layout.specs.Spent.{spent}
 use Rattle.sasi_layout.specs.Statements.{known_in}
-use Rattle.sasi_layout.specs.Worlds.{World, steps}
+use Rattle.sasi_store.specs.Worlds.{World, steps}
 use Rattle.sasi_run.specs.Headline.{IsFirstPart}
 use Rattle.sasi_run.specs.declared.status.Status.{Status}
 use Rattle.sasi_run.specs.declared.status.Status.TheVariants.{Done, Refused, AnalyzerMissing, NumbersSpent}

@@ -13,7 +13,8 @@ use Rattle.sasi_layout.specs.Layout.{Layout, bare, state_of}
 use Rattle.sasi_layout.specs.Running.{Crashed, after_pieces}
 use Rattle.sasi_layout.specs.Serving.{closed}
 use Rattle.sasi_layout.specs.Shape.{IsOfShape, ShapeOf}
-use Rattle.sasi_layout.specs.Worlds.{Transitions, new_world, steps_by}
+use Rattle.sasi_layout.specs.Transitions.{Transitions}
+use Rattle.sasi_store.specs.Worlds.{new_world, steps_by}
 use Rattle.sasi_run.specs.declared.status.Status.{Status}
 use Rattle.sasi_run.specs.Headline.{RanToEnd, Runs, first_of, script_of}
 

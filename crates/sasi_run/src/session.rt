@@ -3,7 +3,7 @@ ghost use Rattle.std.specs.Prelude.{◌≡◌, OnErr, OnOk, IfErr, map, ◌∷�
 ghost use Rattle.sasi_host.specs.View.{AllOut, Emits, FailsOnlyAsTold, OutCauses, counted};
 ghost use Rattle.sasi_layout.specs.Classes.{KnowsClasses};
 ghost use Rattle.sasi_layout.specs.Layout.{state_of};
-ghost use Rattle.sasi_layout.specs.Worlds.{ServesWorld, World};
+ghost use Rattle.sasi_store.specs.Worlds.{ServesWorld, World};
 ghost use Rattle.sasi_model.specs.Pieces.{piece_of};
 ghost use Rattle.sasi_cql.specs.SplitterState.{resume};
 ghost use Rattle.sasi_store.specs.Answers.{NeedsNoFile};
@@ -110,7 +110,7 @@ pub fn answer<H: Host>(
     requires classes { KnowsClasses (map (λ b. kind (b.vtable, b.value)) kit.old.objects.items) session.old.store.memory }
     ensures ok { OnOk result (AnswersCrashSafe (map (λ b. kind (b.vtable, b.value)) kit.old.objects.items) session.old session.new (H.view host.old) (H.view host.new) (piece_of end session.old.splitter.text)) }
     ensures err { IfErr result (λ stop. FailsCrashSafe (map (λ b. kind (b.vtable, b.value)) kit.old.objects.items) stop session.old (H.view host.old) (H.view host.new) (piece_of end session.old.splitter.text ∷ [])) }
-    ensures no_file_call { (w : World) → ServesWorld (H.view host.old) session.old.store.memory w → NeedsNoFile (state_of w.layout) (piece_of end session.old.splitter.text) → (H.view host.new).calls ≡ (H.view host.old).calls }
+    ensures no_file_call { (w : World) → ServesWorld (H.view host.old) session.old.store.memory session.old.store.trace w → NeedsNoFile (state_of w.layout) (piece_of end session.old.splitter.text) → (H.view host.new).calls ≡ (H.view host.old).calls }
     ensures causes { Faults (H.view host.old) (H.view host.new) result }
     ensures told { FailsOnlyAsTold (H.view host.old) (H.view host.new) }
     ensures classes { OnOk result (KnowsClasses (map (λ b. kind (b.vtable, b.value)) kit.new.objects.items) session.new.store.memory) }

@@ -28,6 +28,7 @@ pub mod Defining
 pub mod ListedSchema
 pub mod FlushingTables
 pub mod Composition
+pub mod SessionLaws
 pub mod Stepping
 pub mod FloorLaws
 pub mod FlushingParts

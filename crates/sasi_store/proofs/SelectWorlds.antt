@@ -1,7 +1,8 @@
 -- The world of a SELECT's plan over the current parts of its table: its rows are the answer, and its reads are within those of the SELECT.
-use Rattle.std.proofs.Common.{◌≡◌, ◌-◌, ◌≤◌, ◌++◌, Bool, true, false, cond, ℕ, List, [], ◌∷◌, map, take, slice_get, Option, None, Some, refl, sym, ap, subst, ◌∙◌, arith}
+use Rattle.std.proofs.Common.{◌≡◌, ◌-◌, ◌^◌, ◌≤◌, ◌++◌, Bool, true, false, cond, ℕ, zero, suc, List, [], ◌∷◌, map, take, slice_get, Option, None, Some, Result, Ok, Err, IfOk, refl, sym, ap, subst, ◌∙◌, arith}
 use Rattle.std.proofs.lemmas.List.{take-map}
 use Rattle.std.specs.FinMap.{entries}
+use Rattle.std.specs.Prelude.{min}
 use Rattle.std.specs.List.{AllByRecursion, filter}
 use Rattle.std.specs.Option.{option_map_or}
 use Rattle.sasi_types.specs.declared.decorated_key.DecoratedKey.{DecoratedKey}
@@ -14,14 +15,13 @@ use Rattle.sasi_host.specs.View.{IsSound, View}
 use Rattle.sasi_model.specs.Abbreviations.{Partitions, types_of}
 use Rattle.sasi_model.specs.Cells.{Partition}
 use Rattle.sasi_model.specs.Conditions.{Condition, condition_of}
-use Rattle.sasi_model.specs.Filters.{Filter, answers, limited, row_limit, rows_up_to}
+use Rattle.sasi_model.specs.Filters.{Filter, answers, key_asked, limited, row_limit, rows_up_to, where_of}
 use Rattle.sasi_model.specs.Lines.{rows_lines}
 use Rattle.sasi_model.specs.State.{Definition, Table}
 use Rattle.sasi_model.specs.Step.{select_lines}
 use Rattle.sasi_machine.proofs.Picked.{lines_by_numbers}
 use Rattle.sasi_machine.specs.Prepares.{answer_rows}
 use Rattle.sasi_machine.specs.TableRows.{rows_picked}
-use Rattle.sasi_machine.specs.Where.{key_asked, where_of}
 use Rattle.sasi_machine.specs.declared.prepared.Selection.{Selection}
 use Rattle.sasi_manifest.specs.declared.files.ListedFile.{ListedFile}
 use Rattle.sasi_manifest.specs.declared.listing.Listing.{Listing}
@@ -35,7 +35,7 @@ use Rattle.sasi_layout.specs.Layout.{File, Layout, TableParts, listed_of, state_
 use Rattle.sasi_layout.specs.Serving.{CanChange, Serves}
 use Rattle.sasi_scan.specs.Finding.{key_reads}
 use Rattle.sasi_scan.specs.Paging.{table_reads}
-use Rattle.sasi_candidates.specs.Checks.{rows as answer}
+use Rattle.sasi_candidates.specs.Checks.{checked, rows as answer}
 use Rattle.sasi_candidates.specs.Costs as costs
 use Rattle.sasi_candidates.specs.LayoutParts.{part_of_file, part_of_map, parts_of}
 use Rattle.sasi_candidates.specs.Parts.{Part, maps_of}
@@ -45,6 +45,7 @@ use Rattle.sasi_engine.specs.HitCandidates.{PlanWorld}
 use Rattle.sasi_engine.specs.TokenHits.{contents_in_files}
 use Rattle.sasi_engine.specs.Views.{AreAsked}
 use Rattle.sasi_plan.specs.Answers.{row_of}
+use Rattle.sasi_recheck.specs.Rows.{counted_on}
 use Rattle.sasi_plan.specs.Plans.{IsAskedOf, IsSourceOf, PlanView, relation_of}
 use Rattle.sasi_plan.specs.Reading.{IsBounded, IsBoundedBy, IsMadeFor, IsReadIn, IsViewOf, listed_files, plan_reads, reads_by}
 use Rattle.sasi_plan.specs.declared.plan.PlanSource.{PlanSource}
@@ -54,6 +55,7 @@ use Rattle.sasi_store.specs.Printing.{picked_lines, row_picked}
 use Rattle.sasi_store.specs.Selects.{AreShortFor, AreShortIn, HasShortFiles, IsPlanFor, asked_reads, conditions_on, rows_reads, selection_reads, unindexed_reads}
 use Rattle.sasi_store.specs.StoreView.{IsOfParts, memory_of}
 use Rattle.sasi_store.specs.Tables.{content_of}
+use Rattle.sasi_store.specs.Worlds.{selection_checks}
 use Rattle.sasi_store.specs.ViewParts.{current_parts, listed_parts, memtable_number}
 use Rattle.sasi_store.specs.declared.parts.Parts.{Parts}
 use Rattle.sasi_store.proofs.TablesInMemory.{map_there, seen_as}
@@ -95,6 +97,16 @@ contents_back t (f ∷ fs) ms = ap (λ l. content_of f.holds ∷ l) (contents_ba
 
 same_most : (m n : ℕ) → m ≡ n → m ≤ n
 same_most m n same = omega (arith, same)
+
+-- what follows of the value of a result
+pub if_ok : {T E : Type 0} (P Q : T → Type 0) (result : Result T E) → ((x : T) → P x → Q x) → IfOk result P → IfOk result Q
+if_ok P Q (Ok x) follows is = follows x is
+if_ok P Q (Err e) follows is = tt
+
+-- a count from nothing
+counted_all : (n : ℕ) → counted_on 0 n ≡ min n (2 ^ 64 - 1)
+counted_all zero = omega arith
+counted_all (suc n) = (let before = counted_all n in omega (arith, before))
 
 -- ---- the world
 
@@ -155,6 +167,14 @@ module _ (v : View) (sound : IsSound v) (p : Parts) (of : IsOfParts p) (ready : 
       ∙ ap (λ (m : Partitions). select_lines d rows.select (entries m)) (sym (merged_table t))
       ∙ ap (λ (x : Definition). select_lines x rows.select (entries (table_of t).partitions)) (sym t_defined)
       ∙ sym (ap (λ (o : Option Table). option_map_or (λ (x : Table). select_lines x.definition rows.select (entries x.partitions)) o []) (map_there table_of l.tables at t table.1))
+
+  -- **So many candidates are checked for them.**
+  pub checks_are : counted_on 0 (checked plan.limit wanted (parts_of t)) ≡ selection_checks l rows
+  checks_are =
+      counted_all (checked plan.limit wanted (parts_of t))
+      ∙ ap (λ (o : Option ℕ). min (checked o wanted (parts_of t)) (2 ^ 64 - 1)) is.limit
+      ∙ ap (λ (cs : List Condition). min (checked (row_limit rows.select.limit) (where_of cs) (parts_of t)) (2 ^ 64 - 1)) (sym conditions_are)
+      ∙ sym (ap (λ (o : Option TableParts). option_map_or (λ (x : TableParts). min (checked (row_limit rows.select.limit) (where_of (conditions_on x rows.select)) (parts_of x)) (2 ^ 64 - 1)) o 0) table.1)
 
   module _ (folder : Folder) (now : v.files ≡ Some folder) where
     abbrev pub world : PlanWorld

@@ -1,5 +1,5 @@
 -- What the parts of a step make of its promises.
-use Rattle.std.proofs.Common.{◌≡◌, ◌≢◌, ◌+◌, ◌≤◌, ◌++◌, ◌∷◌, ℕ, List, [], Option, None, Some, IsSome, Ok, Err, refl, sym, ap, subst, ◌∙◌, inl, inr, arith}
+use Rattle.std.proofs.Common.{◌≡◌, ◌≢◌, ◌+◌, ◌≤◌, ◌++◌, ◌∷◌, Bool, ℕ, List, [], Option, None, Some, IsSome, Result, Ok, Err, refl, sym, ap, subst, ◌∙◌, inl, inr, arith}
 use Rattle.std.specs.Option.{option_map_or}
 use Rattle.sasi_folder.specs.Damages.{FolderShows}
 use Rattle.sasi_host.proofs.ChangeLaws.{at_each_moment, stays}
@@ -18,13 +18,12 @@ use Rattle.sasi_layout.specs.Moves.{Move, after_moves}
 use Rattle.sasi_layout.specs.Serving.{CanChange, Serves, StoreInMemory, known_in_memory}
 use Rattle.sasi_layout.specs.Shape.{HasShape}
 use Rattle.sasi_layout.specs.Spent.{spent}
-use Rattle.sasi_layout.specs.Statements.{definitions_of, moves_asked}
-use Rattle.sasi_layout.specs.Worlds.{ServesWorld, World, steps}
+use Rattle.sasi_layout.specs.Statements.{definitions_of, moves_asked, moves_of}
 use Rattle.sasi_layout.specs.declared.number_kind.NumberKind.{NumberKind}
 use Rattle.sasi_machine.proofs.KnownStates.{knows}
 use Rattle.sasi_machine.specs.Classes as kits
 use Rattle.sasi_machine.specs.Outcome.{outcome_of}
-use Rattle.sasi_machine.specs.Prepares.{IsQuery, IsStateOf, SaysOne, SelectsRows, StepsTo}
+use Rattle.sasi_machine.specs.Prepares.{IsQuery, IsRefusedOrEmpty, IsStateOf, SaysOne, SelectsRows, StepsTo, TurnsTrace, answer_rows}
 use Rattle.sasi_machine.specs.declared.prepared.Selection.{Selection}
 use Rattle.sasi_machine.specs.declared.outcome.Outcome.{Outcome}
 use Rattle.sasi_machine.specs.declared.outcome.Outcome.TheVariants.{Done}
@@ -39,6 +38,7 @@ use Rattle.sasi_model.specs.Asked as ask
 use Rattle.sasi_model.specs.Asked.{Asked, asks, class_needed}
 use Rattle.sasi_model.specs.Pieces.{Piece}
 use Rattle.sasi_model.specs.Refusals.{Nothing, Refusal, Says, read}
+use Rattle.sasi_model.specs.Sessions.{SessionState, Tail, tail_bytes}
 use Rattle.sasi_model.specs.State.{Definition, State, max_timestamp}
 use Rattle.sasi_model.specs.Step.{step}
 use Rattle.sasi_store.specs.Answers.{AnsweredButRows, NeedsNoFile}
@@ -48,9 +48,11 @@ use Rattle.sasi_schema.specs.Numbers.{number_of_table}
 use Rattle.sasi_store.specs.MakesMoves.{MakesMoves}
 use Rattle.sasi_store.specs.Selects.{HasShortFiles, HasShortRows, HasShortTable, select_reads, selection_reads}
 use Rattle.sasi_store.specs.Steps.{StepPromises}
+use Rattle.sasi_store.specs.Worlds.{ServesWorld, World, piece_checks, rows_tail, selection_checks, steps}
 use Rattle.sasi_store.specs.declared.fault.StepFault.{StepFault}
 use Rattle.sasi_store.specs.declared.fault.StepFault.TheVariants as fault
 use Rattle.sasi_store.proofs.MoveCauses.{any_change, none_made}
+use Rattle.sasi_store.proofs.SessionLaws.{LeavesSession, plain_reply, refused_leaves, selected_turns, traced_turns}
 
 -- ---- a world and its state
 
@@ -58,11 +60,11 @@ pub state_is : (v : View) (store : StoreInMemory) (l : Layout) → Serves v stor
 state_is v store l serves = knows (known_in_memory store) (state_of l) (sym (serves.definitions ∙ definitions_are l)) (sym serves.timestamp)
 
 module _ (v : View) (store : StoreInMemory) (piece : Piece) (asked : Asked) (is : asks (known_in_memory store) piece ≡ asked) where
-  pub moves_are : (w : World) → ServesWorld v store w → steps.moves w piece ≡ moves_asked w.layout asked
-  moves_are w serves =
-      ap (λ (ds : List Definition). moves_asked w.layout (asks (record { tables = ds; max_timestamp = max_timestamp (state_of w.layout) }) piece)) (sym serves.definitions)
-      ∙ ap (λ (time : ℕ). moves_asked w.layout (asks (record { tables = store.definitions; max_timestamp = time }) piece)) (sym serves.timestamp)
-      ∙ ap (moves_asked w.layout) is
+  pub moves_are : (l : Layout) → Serves v store l → moves_of l piece ≡ moves_asked l asked
+  moves_are l serves =
+      ap (λ (ds : List Definition). moves_asked l (asks (record { tables = ds; max_timestamp = max_timestamp (state_of l) }) piece)) (sym serves.definitions)
+      ∙ ap (λ (time : ℕ). moves_asked l (asks (record { tables = store.definitions; max_timestamp = time }) piece)) (sym serves.timestamp)
+      ∙ ap (moves_asked l) is
 
 -- ---- moves
 
@@ -106,24 +108,27 @@ answered_as store s after piece reply outcome to of = record {
   reply_is = λ _. sym to.reply_is;
 }
 
-module _ {T : Type 0} (kinds : List Class) (a b : View) (old new : StoreInMemory) (piece : Piece) (reply : List ℕ) (asked : Asked) (is : asks (known_in_memory old) piece ≡ asked) (changing : asked ≡ ask.NoChange → ⊥) where
+module _ {T : Type 0} (kinds : List Class) (a b : View) (old new : StoreInMemory) {was : Bool} (piece : Piece) (reply : List ℕ) (asked : Asked) (is : asks (known_in_memory old) piece ≡ asked) (changing : asked ≡ ask.NoChange → ⊥) where
   -- its moves were made; `after` is the state after the piece
   pub step_made : (x : T) (after : State → State) → MakesMoves {T = T} (λ l. moves_asked l asked) a b old new (Ok x)
       → ((s : State) → IsStateOf (known_in_memory old) s → StepsTo s piece (after s) reply Done)
       → ((s : State) → IsStateOf (known_in_memory old) s → IsStateOf (known_in_memory new) (after s))
-      → (KnowsClasses kinds old → KnowsClasses kinds new) → HasNeeded kinds (class_needed asked) → StepPromises kinds piece a b old new reply (Ok Done)
-  step_made x after makes steps_to known classes has = record {
+      → ((s : State) → IsStateOf (known_in_memory old) s → LeavesSession s piece)
+      → (KnowsClasses kinds old → KnowsClasses kinds new) → HasNeeded kinds (class_needed asked) → StepPromises kinds piece a b old new was was reply (Ok Done)
+  step_made x after makes steps_to known leaves classes has = record {
     answers = λ w serves.
-        let to = steps_to (state_of w.layout) (state_is a old w.layout serves) in
+        let of = state_is a old w.layout serves.serves in
+        let to = steps_to (state_of w.layout) of in
+        let left = leaves (state_of w.layout) of in
         record {
-          serves = subst (λ (ms : List Move). Serves b new (after_moves ms w.layout)) (sym (moves_are a old piece asked is w serves)) (makes.serves w.layout serves);
-          reply_is = sym to.reply_is;
+          serves = record { serves = subst (λ (ms : List Move). Serves b new (after_moves ms w.layout)) (sym (moves_are a old piece asked is w.layout serves.serves)) (makes.serves w.layout serves.serves); trace_is = serves.trace_is ∙ ap (λ (x : SessionState). x.trace) (sym (left.session_is w.session)) };
+          reply_is = sym (plain_reply (state_of w.layout) piece (λ x. x) left w.session _ ∙ to.reply_is);
           outcome_is = to.outcome_is;
-          unspent = ap (spent w.layout) (moves_are a old piece asked is w serves) ∙ makes.unspent w.layout serves;
+          unspent = ap (spent w.layout) (moves_are a old piece asked is w.layout serves.serves) ∙ makes.unspent w.layout serves.serves;
         };
     everywhere = λ s of. answered_as new s (after s) piece reply Done (steps_to s of) (known s of);
     ready = makes.ready;
-    any_moment = λ w serves. subst (λ (ms : List Move). Changes (λ x y. Between w.layout ms y) a b) (sym (moves_are a old piece asked is w serves)) (makes.any_moment w.layout serves);
+    any_moment = λ w serves. subst (λ (ms : List Move). Changes (λ x y. Between w.layout ms y) a b) (sym (moves_are a old piece asked is w.layout serves.serves)) (makes.any_moment w.layout serves.serves);
     spent_is = tt;
     classes = classes;
     needed = needed_asked kinds (asks (known_in_memory old) piece) asked is has;
@@ -139,13 +144,13 @@ module _ {T : Type 0} (kinds : List Class) (a b : View) (old new : StoreInMemory
   }
 
   -- they weren't, or not all of them
-  pub step_failed : (e : StepFault) → MakesMoves {T = T} (λ l. moves_asked l asked) a b old new (Err e) → HasNeeded kinds (class_needed asked) → StepPromises kinds piece a b old new reply (Err e)
+  pub step_failed : (e : StepFault) → MakesMoves {T = T} (λ l. moves_asked l asked) a b old new (Err e) → HasNeeded kinds (class_needed asked) → StepPromises kinds piece a b old new was was reply (Err e)
   step_failed e makes has = record {
     answers = tt;
     everywhere = tt;
     ready = tt;
-    any_moment = λ w serves. subst (λ (ms : List Move). Changes (λ x y. Between w.layout ms y) a b) (sym (moves_are a old piece asked is w serves)) (makes.any_moment w.layout serves);
-    spent_is = by_spent _ _ (λ kind on w serves. ap (spent w.layout) (moves_are a old piece asked is w serves) ∙ on w.layout serves) e makes.spent_is;
+    any_moment = λ w serves. subst (λ (ms : List Move). Changes (λ x y. Between w.layout ms y) a b) (sym (moves_are a old piece asked is w.layout serves.serves)) (makes.any_moment w.layout serves.serves);
+    spent_is = by_spent _ _ (λ kind on w serves. ap (spent w.layout) (moves_are a old piece asked is w.layout serves.serves) ∙ on w.layout serves.serves) e makes.spent_is;
     classes = tt;
     needed = tt;
     needed_first = where_spent _ e (needed_asked kinds (asks (known_in_memory old) piece) asked is has);
@@ -165,13 +170,13 @@ no_kind : (kind : NumberKind) → None ≡ Some kind → ⊥
 no_kind kind e = cc
 
 -- nothing was done: memory ran out, or the analyzer of a new index is missing
-step_not_made : (kinds : List Class) (v : View) (sound : IsSound v) (old : StoreInMemory) (piece : Piece) (reply : List ℕ) (e : StepFault) → e ≢ fault.Failed
-    → OnSpent (λ _. ⊥) e → OnStepDamage (λ _. ⊥) e → OnMissing (LacksNeeded kinds (asks (known_in_memory old) piece)) e → StepPromises kinds piece v v old old reply (Err e)
+step_not_made : {was : Bool} (kinds : List Class) (v : View) (sound : IsSound v) (old : StoreInMemory) (piece : Piece) (reply : List ℕ) (e : StepFault) → e ≢ fault.Failed
+    → OnSpent (λ _. ⊥) e → OnStepDamage (λ _. ⊥) e → OnMissing (LacksNeeded kinds (asks (known_in_memory old) piece)) e → StepPromises kinds piece v v old old was was reply (Err e)
 step_not_made kinds v sound old piece reply e other unspent undamaged missing = record {
   answers = tt;
   everywhere = tt;
   ready = tt;
-  any_moment = λ w serves. moves_none w.layout v (steps.moves w piece) sound (λ x now. (_, serves.shape x now));
+  any_moment = λ w serves. moves_none w.layout v (steps.moves w piece) sound (λ x now. (_, serves.serves.shape x now));
   spent_is = by_spent (λ _. ⊥) _ (λ kind none. absurd none) e unspent;
   classes = tt;
   needed = tt;
@@ -189,41 +194,44 @@ step_not_made kinds v sound old piece reply e other unspent undamaged missing = 
     one_then : {f : StepFault} → e ≡ f → f ≡ fault.Failed → e ≡ fault.Failed
     one_then one same = cc
 
-pub step_full : (kinds : List Class) (v : View) (sound : IsSound v) (old : StoreInMemory) (piece : Piece) (reply : List ℕ) → StepPromises kinds piece v v old old reply (Err fault.OutOfMemory)
+pub step_full : {was : Bool} (kinds : List Class) (v : View) (sound : IsSound v) (old : StoreInMemory) (piece : Piece) (reply : List ℕ) → StepPromises kinds piece v v old old was was reply (Err fault.OutOfMemory)
 step_full kinds v sound old piece reply = step_not_made kinds v sound old piece reply fault.OutOfMemory both tt tt tt
   where
     both : fault.OutOfMemory ≡ fault.Failed → ⊥
     both e = cc
 
 -- a piece isn't prepared for want of memory alone
-pub step_unprepared : (kinds : List Class) (v : View) (sound : IsSound v) (old : StoreInMemory) (piece : Piece) (reply : List ℕ) (f : KitFault) → KnowsClasses kinds old → kits.OnMissing (kits.TablesLack kinds old.definitions) f
-    → StepPromises kinds piece v v old old reply (Err (fault_of_kit f))
+pub step_unprepared : {was : Bool} (kinds : List Class) (v : View) (sound : IsSound v) (old : StoreInMemory) (piece : Piece) (reply : List ℕ) (f : KitFault) → KnowsClasses kinds old → kits.OnMissing (kits.TablesLack kinds old.definitions) f
+    → StepPromises kinds piece v v old old was was reply (Err (fault_of_kit f))
 step_unprepared kinds v sound old piece reply kit_fault.OutOfMemory known lacks = step_full kinds v sound old piece reply
 step_unprepared kinds v sound old piece reply (kit_fault.Missing class) known lacks = absurd (no_table_lacks kinds old.definitions known class lacks)
 
-pub step_missing : (kinds : List Class) (v : View) (sound : IsSound v) (old : StoreInMemory) (piece : Piece) (reply : List ℕ) (asked : Asked) (class : Class) → asks (known_in_memory old) piece ≡ asked → LacksNeeded kinds asked class
-    → StepPromises kinds piece v v old old reply (Err (fault.AnalyzerMissing class))
+pub step_missing : {was : Bool} (kinds : List Class) (v : View) (sound : IsSound v) (old : StoreInMemory) (piece : Piece) (reply : List ℕ) (asked : Asked) (class : Class) → asks (known_in_memory old) piece ≡ asked → LacksNeeded kinds asked class
+    → StepPromises kinds piece v v old old was was reply (Err (fault.AnalyzerMissing class))
 step_missing kinds v sound old piece reply asked class is lacks =
     step_not_made kinds v sound old piece reply (fault.AnalyzerMissing class) both tt tt (subst (λ (a : Asked). LacksNeeded kinds a class) (sym is) lacks)
   where
     both : fault.AnalyzerMissing class ≡ fault.Failed → ⊥
     both e = cc
 
--- it is answered without a change
-pub step_answered : (kinds : List Class) (v : View) (sound : IsSound v) (old : StoreInMemory) (piece : Piece) (reply : List ℕ) (outcome : Outcome) → CanChange v old → asks (known_in_memory old) piece ≡ ask.NoChange
-    → ((s : State) → IsStateOf (known_in_memory old) s → StepsTo s piece s reply outcome) → StepPromises kinds piece v v old old reply (Ok outcome)
-step_answered kinds v sound old piece reply outcome ready is steps_to = record {
+-- it is answered without a move
+step_still : {was trace : Bool} (kinds : List Class) (v : View) (sound : IsSound v) (old : StoreInMemory) (piece : Piece) (reply : List ℕ) (outcome : Outcome) → CanChange v old → asks (known_in_memory old) piece ≡ ask.NoChange
+    → ((s : State) → IsStateOf (known_in_memory old) s → StepsTo s piece s reply outcome)
+    → ((w : World) → ServesWorld v old was w → (trace ≡ (steps.after w piece).session.trace) × (steps.reply w piece ≡ (step (state_of w.layout) piece).reply))
+    → StepPromises kinds piece v v old old was trace reply (Ok outcome)
+step_still kinds v sound old piece reply outcome ready is steps_to turns = record {
   answers = λ w serves.
-      let to = steps_to (state_of w.layout) (state_is v old w.layout serves) in
+      let to = steps_to (state_of w.layout) (state_is v old w.layout serves.serves) in
+      let turned = turns w serves in
       record {
-        serves = subst (λ (ms : List Move). Serves v old (after_moves ms w.layout)) (sym (moves_are v old piece ask.NoChange is w serves)) serves;
-        reply_is = sym to.reply_is;
+        serves = record { serves = subst (λ (ms : List Move). Serves v old (after_moves ms w.layout)) (sym (moves_are v old piece ask.NoChange is w.layout serves.serves)) serves.serves; trace_is = turned.0 };
+        reply_is = sym (turned.1 ∙ to.reply_is);
         outcome_is = to.outcome_is;
-        unspent = ap (spent w.layout) (moves_are v old piece ask.NoChange is w serves);
+        unspent = ap (spent w.layout) (moves_are v old piece ask.NoChange is w.layout serves.serves);
       };
   everywhere = λ s of. answered_as old s s piece reply outcome (steps_to s of) of;
   ready = ready;
-  any_moment = λ w serves. moves_none w.layout v (steps.moves w piece) sound (λ x now. (_, serves.shape x now));
+  any_moment = λ w serves. moves_none w.layout v (steps.moves w piece) sound (λ x now. (_, serves.serves.shape x now));
   spent_is = tt;
   classes = λ known. known;
   needed = needed_asked kinds (asks (known_in_memory old) piece) ask.NoChange is tt;
@@ -237,6 +245,24 @@ step_answered kinds v sound old piece reply outcome ready is steps_to = record {
   changes = any_change Same v v (stays v);
   causes = none_made v (Ok outcome) (λ e same. cc);
 }
+
+-- a piece that is refused, or has no reply, leaves the session,
+pub step_answered : {was : Bool} (kinds : List Class) (v : View) (sound : IsSound v) (old : StoreInMemory) (piece : Piece) (reply : List ℕ) (outcome : Outcome) → CanChange v old → asks (known_in_memory old) piece ≡ ask.NoChange
+    → ((s : State) → IsStateOf (known_in_memory old) s → StepsTo s piece s reply outcome × IsRefusedOrEmpty s piece) → StepPromises kinds piece v v old old was was reply (Ok outcome)
+step_answered kinds v sound old piece reply outcome ready is prepares =
+    step_still kinds v sound old piece reply outcome ready is (λ s of. (prepares s of).0)
+    (λ w serves.
+    let left = refused_leaves (state_of w.layout) piece (prepares (state_of w.layout) (state_is v old w.layout serves.serves)).1 in
+    (serves.trace_is ∙ ap (λ (x : SessionState). x.trace) (sym (left.session_is w.session)), plain_reply (state_of w.layout) piece (λ x. x) left w.session _))
+
+-- and TRACE turns it on or off
+pub step_traced : {was : Bool} (kinds : List Class) (v : View) (sound : IsSound v) (old : StoreInMemory) (piece : Piece) (reply : List ℕ) (on : Bool) → CanChange v old → asks (known_in_memory old) piece ≡ ask.NoChange
+    → ((s : State) → IsStateOf (known_in_memory old) s → StepsTo s piece s reply Done × SaysOne piece (λ statement. TurnsTrace s statement on)) → StepPromises kinds piece v v old old was on reply (Ok Done)
+step_traced kinds v sound old piece reply on ready is prepares =
+    step_still kinds v sound old piece reply Done ready is (λ s of. (prepares s of).0)
+    (λ w serves.
+    let turned = traced_turns (state_of w.layout) piece on (prepares (state_of w.layout) (state_is v old w.layout serves.serves)).1 in
+    (ap (λ (x : SessionState). x.trace) (sym (turned.session_is w.session)), plain_reply (state_of w.layout) piece _ turned w.session _))
 
 -- ---- a SELECT
 
@@ -261,11 +287,36 @@ select_short seen l s piece rows are (statement, says, in_order, selects) short 
         (subst (HasShortTable seen l select) (ap (number_of_table select.table) (sym are) ∙ ap (λ (q : Select). number_of_table q.table (definitions s.tables)) (sym selects.select_is) ∙ selects.has.named) short)
     by statement selects short = absurd selects
 
-pub select_within : (a b : View) (store : StoreInMemory) (s : State) (piece : Piece) (rows : Selection) → definitions s.tables ≡ store.definitions → SaysOne piece (λ statement. SelectsRows s statement rows)
+pub select_within : {was : Bool} (a b : View) (store : StoreInMemory) (s : State) (piece : Piece) (rows : Selection) → definitions s.tables ≡ store.definitions → SaysOne piece (λ statement. SelectsRows s statement rows)
     → ((l : Layout) → Serves a store l → HasShortFiles a.files l rows → b.reads ≤ a.reads + selection_reads a.files l rows)
-    → (w : World) → ServesWorld a store w → HasShortRows a.files w.layout (read piece) → b.reads ≤ a.reads + select_reads a.files w.layout (read piece)
+    → (w : World) → ServesWorld a store was w → HasShortRows a.files w.layout (read piece) → b.reads ≤ a.reads + select_reads a.files w.layout (read piece)
 select_within a b store s piece rows are says costs w serves short =
-    subst (λ (n : ℕ). b.reads ≤ a.reads + n) (sym (select_costs a.files w.layout s piece rows (are ∙ serves.definitions) says)) (costs w.layout serves (select_short a.files w.layout s piece rows (are ∙ serves.definitions) says short))
+    subst (λ (n : ℕ). b.reads ≤ a.reads + n) (sym (select_costs a.files w.layout s piece rows (are ∙ serves.serves.definitions) says)) (costs w.layout serves.serves (select_short a.files w.layout s piece rows (are ∙ serves.serves.definitions) says short))
+
+-- and how many candidates it checks
+select_checks : (l : Layout) (s : State) (piece : Piece) (rows : Selection) → definitions s.tables ≡ definitions_of l → SaysOne piece (λ statement. SelectsRows s statement rows) → piece_checks l (read piece) ≡ selection_checks l rows
+select_checks l s piece rows are (statement, says, in_order, selects) = ap (piece_checks l) says ∙ by statement selects
+  where
+    by : (statement : Statement) → SelectsRows s statement rows → piece_checks l (Says statement) ≡ selection_checks l rows
+    by (Query select) selects =
+        ap (λ (o : Option ℕ). option_map_or (λ number. selection_checks l (record { table = number; select = select })) o 0)
+        (ap (number_of_table select.table) (sym are) ∙ ap (λ (q : Select). number_of_table q.table (definitions s.tables)) (sym selects.select_is) ∙ selects.has.named)
+        ∙ ap (λ (q : Select). selection_checks l (record { table = rows.table; select = q })) (sym selects.select_is)
+    by statement selects = absurd selects
+
+-- **Its reply is that of the world's step, and it leaves the session.**
+pub select_turns : (w : World) (piece : Piece) (rows : Selection) (was : Bool) (reply : List ℕ) → StepsTo (state_of w.layout) piece (state_of w.layout) (answer_rows (state_of w.layout) rows) Done
+    → SaysOne piece (λ statement. SelectsRows (state_of w.layout) statement rows) → was ≡ w.session.trace → reply ≡ answer_rows (state_of w.layout) rows ++ rows_tail was (selection_checks w.layout rows)
+    → (was ≡ (steps.after w piece).session.trace) × (steps.reply w piece ≡ reply)
+select_turns w piece rows was reply to says on reply_is =
+    let s = state_of w.layout in
+    let turned = selected_turns s piece rows says in
+    (on ∙ ap (λ (x : SessionState). x.trace) (sym (turned.session_is w.session)),
+    ap (λ (tail : Tail). (step s piece).reply ++ tail_bytes tail (piece_checks w.layout (read piece))) (turned.tail_is w.session)
+    ∙ ap (λ (b : Bool). (step s piece).reply ++ rows_tail b (piece_checks w.layout (read piece))) (sym on)
+    ∙ ap (λ (n : ℕ). (step s piece).reply ++ rows_tail was n) (select_checks w.layout s piece rows (sym (definitions_are w.layout)) says)
+    ∙ ap (λ (front : List ℕ). front ++ rows_tail was (selection_checks w.layout rows)) to.reply_is
+    ∙ sym reply_is)
 
 none_refused : (o : Option Refusal) → Done ≡ outcome_of o → o ≡ None
 none_refused None done = refl
@@ -308,21 +359,24 @@ module _ (a b : View) (change : Changes Same a b) where
     kept = λ folder files. ready.kept folder (files_before folder files);
   }
 
-module _ (kinds : List Class) (a b : View) (sound : IsSound a) (old : StoreInMemory) (piece : Piece) (change : Changes Same a b) (is : asks (known_in_memory old) piece ≡ ask.NoChange) (query : IsQuery (read piece)) where
-  moments : (w : World) → ServesWorld a old w → Changes (λ x y. Between w.layout (steps.moves w piece) y) a b
-  moments w serves = at_each_moment a b Same (λ x. HasShape x (bare w.layout) (serves.older ++ serves.current ∷ [])) (λ y. Between w.layout (steps.moves w piece) y) sound change serves.shape
-      (λ x y has same. none_done w.layout (steps.moves w piece) y (_, subst (λ (z : Folder). HasShape z (bare w.layout) (serves.older ++ serves.current ∷ [])) (sym same) has))
+module _ {was : Bool} (kinds : List Class) (a b : View) (sound : IsSound a) (old : StoreInMemory) (piece : Piece) (change : Changes Same a b) (is : asks (known_in_memory old) piece ≡ ask.NoChange) (query : IsQuery (read piece)) where
+  moments : (w : World) → ServesWorld a old was w → Changes (λ x y. Between w.layout (steps.moves w piece) y) a b
+  moments w serves = at_each_moment a b Same (λ x. HasShape x (bare w.layout) (serves.serves.older ++ serves.serves.current ∷ [])) (λ y. Between w.layout (steps.moves w piece) y) sound change serves.serves.shape
+      (λ x y has same. none_done w.layout (steps.moves w piece) y (_, subst (λ (z : Folder). HasShape z (bare w.layout) (serves.serves.older ++ serves.serves.current ∷ [])) (sym same) has))
 
-  pub select_answered : {T : Type 0} (x : T) (reply : List ℕ) → CanChange a old → ((w : World) → ServesWorld a old w → (step (state_of w.layout) piece).reply ≡ reply)
+  pub select_answered : {T : Type 0} (x : T) (reply : List ℕ) → CanChange a old → ((w : World) → ServesWorld a old was w → (was ≡ (steps.after w piece).session.trace) × (steps.reply w piece ≡ reply))
       → ((s : State) → IsStateOf (known_in_memory old) s → ((step s piece).state ≡ s) × (Done ≡ outcome_of (step s piece).refused))
-      → ((w : World) → ServesWorld a old w → HasShortRows a.files w.layout (read piece) → b.reads ≤ a.reads + select_reads a.files w.layout (read piece))
-      → StepCauses {T = T} a b (Ok x) → StepPromises kinds piece a b old old reply (Ok Done)
+      → ((w : World) → ServesWorld a old was w → HasShortRows a.files w.layout (read piece) → b.reads ≤ a.reads + select_reads a.files w.layout (read piece))
+      → StepCauses {T = T} a b (Ok x) → StepPromises kinds piece a b old old was was reply (Ok Done)
   select_answered x reply ready replied steps_to costs causes = record {
     answers = λ w serves. record {
-      serves = subst (λ (ms : List Move). Serves b old (after_moves ms w.layout)) (sym (moves_are a old piece ask.NoChange is w serves)) (serves_same a b change old w.layout serves);
-      reply_is = sym (replied w serves);
-      outcome_is = (steps_to (state_of w.layout) (state_is a old w.layout serves)).1;
-      unspent = ap (spent w.layout) (moves_are a old piece ask.NoChange is w serves);
+      serves = record {
+        serves = subst (λ (ms : List Move). Serves b old (after_moves ms w.layout)) (sym (moves_are a old piece ask.NoChange is w.layout serves.serves)) (serves_same a b change old w.layout serves.serves);
+        trace_is = (replied w serves).0;
+      };
+      reply_is = sym (replied w serves).1;
+      outcome_is = (steps_to (state_of w.layout) (state_is a old w.layout serves.serves)).1;
+      unspent = ap (spent w.layout) (moves_are a old piece ask.NoChange is w.layout serves.serves);
     };
     everywhere = λ s of.
         let to = steps_to s of in
@@ -348,8 +402,8 @@ module _ (kinds : List Class) (a b : View) (sound : IsSound a) (old : StoreInMem
   }
 
   pub select_failed : {T : Type 0} (e : StepFault) (reply : List ℕ) → ((folder : Folder) → b.files ≡ Some folder → OnStepDamage (FolderShows folder) e) → ((l : Layout) → Serves a old l → OnStepDamage (λ _. ⊥) e) → OnSpent (λ _. ⊥) e → OnMissing (λ _. ⊥) e
-      → ((w : World) → ServesWorld a old w → HasShortRows a.files w.layout (read piece) → b.reads ≤ a.reads + select_reads a.files w.layout (read piece))
-      → StepCauses {T = T} a b (Err e) → StepPromises kinds piece a b old old reply (Err e)
+      → ((w : World) → ServesWorld a old was w → HasShortRows a.files w.layout (read piece) → b.reads ≤ a.reads + select_reads a.files w.layout (read piece))
+      → StepCauses {T = T} a b (Err e) → StepPromises kinds piece a b old old was was reply (Err e)
   select_failed e reply damaged undamaged unspent present costs causes = record {
     answers = tt;
     everywhere = tt;
@@ -361,13 +415,18 @@ module _ (kinds : List Class) (a b : View) (sound : IsSound a) (old : StoreInMem
     needed_first = by_spent (λ _. ⊥) _ (λ kind none. absurd none) e unspent;
     missing = never_missing _ e present;
     damaged = damaged;
-    undamaged = λ w serves. undamaged w.layout serves;
+    undamaged = λ w serves. undamaged w.layout serves.serves;
     reads_only = λ none. change;
     unread = λ other. absurd (other query);
     reads = costs;
     changes = any_change Same a b change;
     causes = record { disk = causes.disk; out = causes.out; ok = tt; failed = causes.failed; others = causes.others };
   }
+
+-- it leaves TRACE as it was
+pub trace_left : {kinds : List Class} {piece : Piece} {a b : View} {old new : StoreInMemory} {was trace later : Bool} {reply : List ℕ} {result : Result Outcome StepFault} → later ≡ trace
+    → StepPromises kinds piece a b old new was trace reply result → StepPromises kinds piece a b old new was later reply result
+trace_left {kinds} {piece} {a} {b} {old} {new} {was} {trace} {later} {reply} {result} same promises = subst (λ (on : Bool). StepPromises kinds piece a b old new was on reply result) (sym same) promises
 
 -- ---- pieces that need no file
 

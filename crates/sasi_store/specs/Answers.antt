@@ -1,22 +1,22 @@
 -- What a step answers, for each world that the store serves.
-use Rattle.std.specs.Prelude.{◌≡◌, ◌⊎◌, ℕ, List, IsSome, None}
+use Rattle.std.specs.Prelude.{◌≡◌, Bool, ℕ, List, None}
 use Rattle.sasi_host.specs.View.{View}
 use Rattle.sasi_layout.specs.Layout.{state_of}
 use Rattle.sasi_layout.specs.Serving.{StoreInMemory, known_in_memory}
 use Rattle.sasi_layout.specs.Spent.{spent}
-use Rattle.sasi_layout.specs.Worlds.{ServesWorld, World, steps}
 use Rattle.sasi_machine.specs.Outcome.{outcome_of}
-use Rattle.sasi_machine.specs.Prepares.{IsQuery, IsStateOf}
+use Rattle.sasi_machine.specs.Prepares.{IsQuery, IsRefusedOrEmpty, IsStateOf}
 use Rattle.sasi_machine.specs.declared.outcome.Outcome.{Outcome}
 use Rattle.sasi_model.specs.Parsers.{Parser, grammar_parser}
 use Rattle.sasi_model.specs.Pieces.{Piece}
-use Rattle.sasi_model.specs.Refusals.{Nothing, read, read_by}
+use Rattle.sasi_model.specs.Refusals.{read_by}
 use Rattle.sasi_model.specs.State.{State}
 use Rattle.sasi_model.specs.Step.{step, step_by}
+use Rattle.sasi_store.specs.Worlds.{ServesWorld, World, steps}
 
--- The store serves the world after the piece, the reply and the outcome are those of the model's step, and no number that the piece needs is spent.
-pub record Answered (v : View) (store : StoreInMemory) (w : World) (piece : Piece) (reply : List ℕ) (outcome : Outcome) : Type 0 where
-  pub serves : ServesWorld v store (steps.after w piece)
+-- The store serves the world after the piece, the reply is that of the world's step, the outcome that of the model's, and no number that the piece needs is spent.
+pub record Answered (v : View) (store : StoreInMemory) (trace : Bool) (w : World) (piece : Piece) (reply : List ℕ) (outcome : Outcome) : Type 0 where
+  pub serves : ServesWorld v store trace (steps.after w piece)
   pub reply_is : reply ≡ steps.reply w piece
   pub outcome_is : outcome ≡ outcome_of (step (state_of w.layout) piece).refused
   pub unspent : spent w.layout (steps.moves w piece) ≡ None
@@ -33,4 +33,4 @@ pub record AnsweredButRows (store : StoreInMemory) (s : State) (piece : Piece) (
 
 -- the piece is refused, or has no reply
 abbrev pub NeedsNoFile : State → Piece → Type 0
-NeedsNoFile s piece = IsSome (step s piece).refused ⊎ (read piece ≡ Nothing)
+NeedsNoFile = IsRefusedOrEmpty

@@ -58,5 +58,5 @@ coded_memory =
 
 abbrev pub coded_store : Coded StoreView
 coded_store =
-    code_by (StoreInMemory × (ℕ × Bool)) (coded× coded_memory (coded× coded_ℕ coded_bool))
-    (λ s. (s.memory, (s.steps, s.usable))) (λ c. record { memory = c.0; steps = c.1.0; usable = c.1.1 }) (λ _. refl)
+    code_by (StoreInMemory × (Bool × (ℕ × Bool))) (coded× coded_memory (coded× coded_bool (coded× coded_ℕ coded_bool)))
+    (λ s. (s.memory, (s.trace, (s.steps, s.usable)))) (λ c. record { memory = c.0; trace = c.1.0; steps = c.1.1.0; usable = c.1.1.1 }) (λ _. refl)

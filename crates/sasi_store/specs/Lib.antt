@@ -9,6 +9,7 @@ pub mod Writable
 pub mod Tables
 pub mod Printing
 pub mod Selects
+pub mod Worlds
 pub mod Steps
 pub mod Floors
 pub mod Numbers

@@ -10,7 +10,7 @@ use Rattle.sasi_host.specs.Names.{Bytes, Folder}
 use Rattle.sasi_host.specs.View.{contents_in}
 use Rattle.sasi_model.specs.Abbreviations.{key_type, types_of}
 use Rattle.sasi_model.specs.Conditions.{Condition, condition_of}
-use Rattle.sasi_model.specs.Filters.{row_limit}
+use Rattle.sasi_model.specs.Filters.{key_asked, row_limit}
 use Rattle.sasi_model.specs.Refusals.{ParsedPiece, Says}
 use Rattle.sasi_model.specs.State.{Definition}
 use Rattle.sasi_model.specs.Step.{selected_columns}
@@ -25,7 +25,6 @@ use Rattle.sasi_layout.specs.Serving.{StoreInMemory}
 use Rattle.sasi_layout.specs.Statements.{definitions_of}
 use Rattle.sasi_machine.specs.Operands.{CanSelect}
 use Rattle.sasi_machine.specs.Picks.{pick}
-use Rattle.sasi_machine.specs.Where.{key_asked}
 use Rattle.sasi_machine.specs.declared.prepared.Selection.{Selection}
 use Rattle.sasi_scan.specs.Finding.{key_reads}
 use Rattle.sasi_scan.specs.Paging.{table_reads}

@@ -16,6 +16,8 @@ use Rattle.sasi_store.specs.declared.parts.Parts.{Parts}
 pub record StoreView : Type 0 where
   -- what it has in memory of its folder
   pub memory : StoreInMemory
+  -- TRACE is on
+  pub trace : Bool
   -- the number of steps that were begun
   pub steps : ℕ
   -- every step succeeded

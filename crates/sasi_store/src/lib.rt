@@ -15,6 +15,7 @@ mod old_segments;
 mod parts;
 mod rows;
 mod select;
+mod session_state;
 mod step;
 mod store;
 mod table_maps;

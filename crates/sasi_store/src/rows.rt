@@ -1,12 +1,12 @@
 // The rows of a reader, as a SELECT prints them.
-ghost use Rattle.std.specs.Prelude.{◌≡◌, ◌+◌, ◌++◌, ◌≤◌, ℕ, List, IfErr, IfOk, OnOk, map};
+ghost use Rattle.std.specs.Prelude.{◌≡◌, ◌+◌, ◌++◌, ◌≤◌, ℕ, List, IfErr, IfOk, OnOk, false, map};
 ghost use Rattle.sasi_host.specs.Damages.{OnDamage};
 ghost use Rattle.sasi_host.specs.Disk.{Changes, Same};
 ghost use Rattle.sasi_model.specs.Cells.{Partition as SpecPartition};
 ghost use Rattle.sasi_ranges.specs.StreamCalls.{CanStream, HasStreamed, Spends, StreamFaults};
 ghost use Rattle.sasi_recheck.specs.Rows.{KnowsWhere};
 ghost use Rattle.sasi_scan.specs.Scanning.{ScanCauses};
-ghost use Rattle.sasi_plan.specs.Answers.{ReadsLeft, RowsLeft};
+ghost use Rattle.sasi_plan.specs.Answers.{CountsTo, ReadsLeft, RowsLeft};
 ghost use Rattle.sasi_store.specs.Printing.{PrintsNext, picked_lines};
 
 use sasi_analyzers::Kit;
@@ -18,7 +18,8 @@ use sasi_print::{count, picked_row};
 use sasi_recheck::Candidates;
 use std::alloc::Global;
 
-/// Prints the rows that a reader has left, in their order, and their number. Of the table it has one partition in memory at a time.
+/// Prints the rows that a reader has left, in their order, and their number, and gives how many candidates were checked for them. Of the table
+/// it has one partition in memory at a time.
 pub fn print_rows<H: Host>(
     alloc: Global,
     host: &mut H,
@@ -26,12 +27,13 @@ pub fn print_rows<H: Host>(
     maps: &MapBook,
     reader: &mut Reader,
     reply: &mut Reply,
-) -> Result<(), ReadFault>
+) -> Result<u64, ReadFault>
     requires read { CanStream (λ _. Unit {0}) (⟦<PlanCandidates as Candidates>⟧.opens reader.old.rows.candidates) (H.view host.old) }
     requires ready { ⟦<PlanCandidates as Candidates>⟧.ready reader.old.rows.candidates (H.view host.old).files maps.now }
     requires prints { ⟦<PlanCandidates as Candidates>⟧.prints reader.old.rows.candidates (H.view host.old).files maps.now reader.old.picked.key }
     requires known { KnowsWhere (map (λ b. kind (b.vtable, b.value)) kit.old.objects.items) reader.old.rows.filter }
     ensures ok { OnOk result ((rows : List (List ℕ × SpecPartition)) → RowsLeft ⟦<PlanCandidates as Candidates>⟧.leaves reader.old.rows (H.view host.old).files maps.now rows → reply.new ≡ reply.old ++ picked_lines reader.old.picked rows) }
+    ensures counted { IfOk result (λ checked. (count : ℕ) → CountsTo ⟦<PlanCandidates as Candidates>⟧.leaves reader.old.rows (H.view host.old).files maps.now count → checked ≡ count) }
     // It reads no more than that takes, also where it fails.
     ensures reads { (most : ℕ) → ReadsLeft ⟦<PlanCandidates as Candidates>⟧.leaves ⟦<PlanCandidates as Candidates>⟧.pays reader.old.rows (H.view host.old).files maps.now most → (H.view host.new).reads ≤ (H.view host.old).reads + most }
     ensures damaged { IfErr result (OnDamage (⟦<PlanCandidates as Candidates>⟧.shows reader.old.rows.candidates (H.view host.old).files)) }
@@ -46,7 +48,7 @@ pub fn print_rows<H: Host>(
         let printed = print_next(alloc, host, kit, maps, reader, reply)?;
         if !printed {
             count(reply, rows)?;
-            return Ok(());
+            return Ok(reader.checked());
         }
         rows += 1;
     }
@@ -68,6 +70,8 @@ fn print_next<H: Host>(
     requires prints { ⟦<PlanCandidates as Candidates>⟧.prints reader.old.rows.candidates (H.view host.old).files maps.now reader.old.picked.key }
     requires known { KnowsWhere (map (λ b. kind (b.vtable, b.value)) kit.old.objects.items) reader.old.rows.filter }
     ensures row { IfOk result (PrintsNext reader.old.picked (RowsLeft ⟦<PlanCandidates as Candidates>⟧.leaves reader.old.rows (H.view host.old).files maps.now) (RowsLeft ⟦<PlanCandidates as Candidates>⟧.leaves reader.new.rows (H.view host.new).files maps.now) reply.old reply.new) }
+    ensures counts { (count : ℕ) → CountsTo ⟦<PlanCandidates as Candidates>⟧.leaves reader.old.rows (H.view host.old).files maps.now count → OnOk result (CountsTo ⟦<PlanCandidates as Candidates>⟧.leaves reader.new.rows (H.view host.new).files maps.now count) }
+    ensures counted { (count : ℕ) → CountsTo ⟦<PlanCandidates as Candidates>⟧.leaves reader.old.rows (H.view host.old).files maps.now count → IfOk result (λ printed. printed ≡ false → reader.new.rows.checked ≡ count) }
     ensures reads { (most : ℕ) → ReadsLeft ⟦<PlanCandidates as Candidates>⟧.leaves ⟦<PlanCandidates as Candidates>⟧.pays reader.old.rows (H.view host.old).files maps.now most
         → Spends (ReadsLeft ⟦<PlanCandidates as Candidates>⟧.leaves ⟦<PlanCandidates as Candidates>⟧.pays reader.new.rows (H.view host.new).files maps.now) most (H.view host.old).reads (H.view host.new).reads result }
     ensures ready { OnOk result (⟦<PlanCandidates as Candidates>⟧.ready reader.new.rows.candidates (H.view host.new).files maps.now) }

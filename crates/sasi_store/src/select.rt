@@ -1,5 +1,5 @@
 // SELECTs.
-ghost use Rattle.std.specs.Prelude.{◌≡◌, ◌+◌, ◌++◌, ◌≤◌, IfErr, OnOk, map};
+ghost use Rattle.std.specs.Prelude.{◌≡◌, ◌+◌, ◌++◌, ◌≤◌, IfErr, IfOk, OnOk, map};
 ghost use Rattle.sasi_folder.specs.Damages.{FolderShows};
 ghost use Rattle.sasi_host.specs.Damages.{OnDamage};
 ghost use Rattle.sasi_host.specs.Disk.{Changes, Same};
@@ -13,21 +13,25 @@ ghost use Rattle.sasi_scan.specs.Scanning.{ScanCauses};
 ghost use Rattle.sasi_store.specs.Faults.{OnMissing, OnSpent, OnStepDamage, StepCauses};
 ghost use Rattle.sasi_store.specs.Selects.{HasShortFiles, IsPlanFor, IsSelectable, selection_reads};
 ghost use Rattle.sasi_store.specs.StoreView.{HasNoneOut, IsOfParts, memory_of};
+ghost use Rattle.sasi_store.specs.Worlds.{rows_tail, selection_checks};
 
 use crate::StepFault;
 use crate::parts::Parts;
 use crate::rows::print_rows;
+use crate::session_state::SessionState;
 use crate::view_parts::view_parts;
 use sasi_analyzers::Kit;
 use sasi_host::{Host, ReadFault};
 use sasi_machine::{Reply, Selection};
 use sasi_plan::{Plan, Reader};
+use sasi_print::checked;
 use sasi_views::ViewBook;
+use std::alloc::AllocError;
 
-/// Prints the rows that a SELECT asks for, over a view of the current parts of its table.
+/// Prints the rows that a SELECT asks for, and where TRACE is on how many candidates were checked for them.
 pub fn select<H: Host>(
     parts: &Parts,
-    views: &mut ViewBook,
+    session: &mut SessionState,
     host: &mut H,
     kit: &mut Kit,
     rows: &Selection,
@@ -37,8 +41,56 @@ pub fn select<H: Host>(
     requires parts { IsOfParts parts.now }
     requires classes { KnowsClasses (map (λ b. kind (b.vtable, b.value)) kit.old.objects.items) (memory_of parts.now) }
     requires there { IsSelectable (memory_of parts.now) rows.now }
+    requires none_out { HasNoneOut session.old.views }
+    ensures ok { OnOk result ((l : Layout) → Serves (H.view host.old) (memory_of parts.now) l → reply.new ≡ reply.old ++ (answer_rows (state_of l) rows.now ++ rows_tail session.old.trace (selection_checks l rows.now))) }
+    // Where a relation is on an indexed column, the bound supposes files of at most 2^40 bytes.
+    ensures reads { (l : Layout) → Serves (H.view host.old) (memory_of parts.now) l → HasShortFiles (H.view host.old).files l rows.now → (H.view host.new).reads ≤ (H.view host.old).reads + selection_reads (H.view host.old).files l rows.now }
+    ensures damaged { (folder : Folder) → (H.view host.new).files ≡ Some folder → IfErr result (OnStepDamage (FolderShows folder)) }
+    ensures undamaged { (l : Layout) → Serves (H.view host.old) (memory_of parts.now) l → IfErr result (OnStepDamage (λ _. ⊥)) }
+    ensures unspent { IfErr result (OnSpent (λ _. ⊥)) }
+    ensures present { IfErr result (OnMissing (λ _. ⊥)) }
+    ensures kinds { map (λ b. kind (b.vtable, b.value)) kit.new.objects.items ≡ map (λ b. kind (b.vtable, b.value)) kit.old.objects.items }
+    ensures changes { Changes Same (H.view host.old) (H.view host.new) }
+    ensures causes { StepCauses (H.view host.old) (H.view host.new) result }
+    ensures trace { session.new.trace ≡ session.old.trace }
+    // The view is given back, also where it fails.
+    ensures back { HasNoneOut session.new.views }
+{
+    let candidates = answer(parts, &mut session.views, host, kit, rows, reply)?;
+    print_checked(session, candidates, reply)?;
+    Ok(())
+}
+
+// Adds the line of TRACE where it is on.
+fn print_checked(
+    session: &SessionState,
+    candidates: u64,
+    reply: &mut Reply,
+) -> Result<(), AllocError>
+    ensures { OnOk result (reply.new ≡ reply.old ++ rows_tail session.now.trace candidates) }
+{
+    if session.trace {
+        checked(reply, candidates)?;
+    }
+    Ok(())
+}
+
+// Prints the rows, over a view of the current parts of their table, and gives how many candidates were checked.
+fn answer<H: Host>(
+    parts: &Parts,
+    views: &mut ViewBook,
+    host: &mut H,
+    kit: &mut Kit,
+    rows: &Selection,
+    reply: &mut Reply,
+) -> Result<u64, StepFault>
+    requires ready { CanChange (H.view host.old) (memory_of parts.now) }
+    requires parts { IsOfParts parts.now }
+    requires classes { KnowsClasses (map (λ b. kind (b.vtable, b.value)) kit.old.objects.items) (memory_of parts.now) }
+    requires there { IsSelectable (memory_of parts.now) rows.now }
     requires none_out { HasNoneOut views.old }
     ensures ok { OnOk result ((l : Layout) → Serves (H.view host.old) (memory_of parts.now) l → reply.new ≡ reply.old ++ answer_rows (state_of l) rows.now) }
+    ensures counted { IfOk result (λ checked. (l : Layout) → Serves (H.view host.old) (memory_of parts.now) l → checked ≡ selection_checks l rows.now) }
     // Where a relation is on an indexed column, the bound supposes files of at most 2^40 bytes.
     ensures reads { (l : Layout) → Serves (H.view host.old) (memory_of parts.now) l → HasShortFiles (H.view host.old).files l rows.now → (H.view host.new).reads ≤ (H.view host.old).reads + selection_reads (H.view host.old).files l rows.now }
     ensures damaged { (folder : Folder) → (H.view host.new).files ≡ Some folder → IfErr result (OnStepDamage (FolderShows folder)) }
@@ -55,8 +107,7 @@ pub fn select<H: Host>(
     let index = rows.table as usize - 1;
     let table = &listing.tables.as_slice()[index].table;
     let plan = Plan::new(parts.alloc, &rows.select, table, listing.partitioner, kit)?;
-    read_view(parts, views, host, kit, rows, plan, reply)?;
-    Ok(())
+    Ok(read_view(parts, views, host, kit, rows, plan, reply)?)
 }
 
 // Prints the rows of a plan over a view of the current parts of its table.
@@ -68,13 +119,14 @@ fn read_view<H: Host>(
     rows: &Selection,
     plan: Plan,
     reply: &mut Reply,
-) -> Result<(), ReadFault>
+) -> Result<u64, ReadFault>
     requires ready { CanChange (H.view host.old) (memory_of parts.now) }
     requires parts { IsOfParts parts.now }
     requires plan { IsPlanFor parts.now rows.now plan }
     requires known { KnowsWhere (map (λ b. kind (b.vtable, b.value)) kit.old.objects.items) plan.conditions }
     requires none_out { HasNoneOut views.old }
     ensures ok { OnOk result ((l : Layout) → Serves (H.view host.old) (memory_of parts.now) l → reply.new ≡ reply.old ++ answer_rows (state_of l) rows.now) }
+    ensures counted { IfOk result (λ checked. (l : Layout) → Serves (H.view host.old) (memory_of parts.now) l → checked ≡ selection_checks l rows.now) }
     ensures reads { (l : Layout) → Serves (H.view host.old) (memory_of parts.now) l → HasShortFiles (H.view host.old).files l rows.now → (H.view host.new).reads ≤ (H.view host.old).reads + selection_reads (H.view host.old).files l rows.now }
     ensures damaged { (folder : Folder) → (H.view host.old).files ≡ Some folder → IfErr result (OnDamage (FolderShows folder)) }
     ensures undamaged { (l : Layout) → Serves (H.view host.old) (memory_of parts.now) l → IfErr result (OnDamage (λ _. ⊥)) }

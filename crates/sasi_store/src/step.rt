@@ -15,17 +15,17 @@ use crate::define::{check_class, define};
 use crate::flush_table::flush_unless_empty;
 use crate::parts::Parts;
 use crate::select::select;
+use crate::session_state::SessionState;
 use crate::write::write;
 use sasi_analyzers::Kit;
 use sasi_host::Host;
 use sasi_machine::{Outcome, Prepared, Reply, prepare};
 use sasi_types::{PieceEnd, TableNumber};
-use sasi_views::ViewBook;
 
 /// Answers a piece: prepares it, and makes its moves.
 pub fn step<H: Host>(
     parts: &mut Parts,
-    views: &mut ViewBook,
+    session: &mut SessionState,
     host: &mut H,
     kit: &mut Kit,
     piece: &[u8],
@@ -35,12 +35,12 @@ pub fn step<H: Host>(
     requires ready { CanChange (H.view host.old) (memory_of parts.old) }
     requires parts { IsOfParts parts.old }
     requires classes { KnowsClasses (map (λ b. kind (b.vtable, b.value)) kit.old.objects.items) (memory_of parts.old) }
-    requires none_out { HasNoneOut views.old }
+    requires none_out { HasNoneOut session.old.views }
     ensures kinds { map (λ b. kind (b.vtable, b.value)) kit.new.objects.items ≡ map (λ b. kind (b.vtable, b.value)) kit.old.objects.items }
-    ensures steps { StepPromises (map (λ b. kind (b.vtable, b.value)) kit.old.objects.items) (piece_of end piece.now) (H.view host.old) (H.view host.new) (memory_of parts.old) (memory_of parts.new) reply.new result }
+    ensures steps { StepPromises (map (λ b. kind (b.vtable, b.value)) kit.old.objects.items) (piece_of end piece.now) (H.view host.old) (H.view host.new) (memory_of parts.old) (memory_of parts.new) session.old.trace session.new.trace reply.new result }
     ensures no_file_call { (s : State) → IsStateOf (known_in_memory (memory_of parts.old)) s → NeedsNoFile s (piece_of end piece.now) → host.new ≡ host.old }
     ensures parts { OnOk result (IsOfParts parts.new) }
-    ensures back { HasNoneOut views.new }
+    ensures back { HasNoneOut session.new.views }
 {
     match prepare(
         parts.alloc,
@@ -73,7 +73,11 @@ pub fn step<H: Host>(
             Ok(Outcome::Done)
         }
         Prepared::Select(rows) => {
-            select(parts, views, host, kit, &rows, reply)?;
+            select(parts, session, host, kit, &rows, reply)?;
+            Ok(Outcome::Done)
+        }
+        Prepared::Trace(on) => {
+            session.trace = on;
             Ok(Outcome::Done)
         }
     }

@@ -16,7 +16,6 @@ ghost use Rattle.sasi_layout.specs.Classes.{HasNeeded, KnowsClasses, LacksNeeded
 ghost use Rattle.sasi_layout.specs.Serving.{Ended, closed, known_in_memory};
 ghost use Rattle.sasi_layout.specs.Shape.{ShapeOf};
 ghost use Rattle.sasi_layout.specs.Spent.{spent};
-ghost use Rattle.sasi_layout.specs.Worlds.{ServesWorld, World, new_world, steps};
 ghost use Rattle.sasi_machine.specs.Prepares.{IsQuery, IsStateOf};
 ghost use Rattle.sasi_recover.specs.Faults.{OnDiffers, OnMissing, OpenCauses};
 ghost use Rattle.sasi_recover.specs.OpenedFolder.{AnyFolderChange};
@@ -25,9 +24,11 @@ ghost use Rattle.sasi_store.specs.Answers.{Answered, AnsweredButRows, NeedsNoFil
 ghost use Rattle.sasi_store.specs.Faults.{OnMissing as OnMissingClass, OnSpent, OnStepDamage, StepCauses};
 ghost use Rattle.sasi_store.specs.Selects.{HasShortRows, select_reads};
 ghost use Rattle.sasi_store.specs.StoreView.{IsReady};
+ghost use Rattle.sasi_store.specs.Worlds.{ServesWorld, World, new_world, steps};
 
 use crate::StepFault;
 use crate::parts::{Parts, parts_of};
+use crate::session_state::SessionState;
 use crate::step::step;
 use sasi_analyzers::Kit;
 use sasi_host::{Failed, Host};
@@ -42,7 +43,7 @@ use std::marker::Model;
 #[derive(Drop)]
 pub struct Store {
     parts: Parts,
-    views: ViewBook,
+    session: SessionState,
     steps: u64,
     usable: bool,
 }
@@ -56,9 +57,9 @@ impl Model for Store {
 
     ghost coded = { coded_store };
 
-    ghost view = { λ a. record { memory = memory_of a.parts; steps = a.steps; usable = a.usable } };
+    ghost view = { λ a. record { memory = memory_of a.parts; trace = a.session.trace; steps = a.steps; usable = a.usable } };
 
-    ghost invariant = { λ a. (IsTrue a.usable → IsOfParts a.parts) × HasNoneOut a.views };
+    ghost invariant = { λ a. (IsTrue a.usable → IsOfParts a.parts) × HasNoneOut a.session.views };
 }
 
 impl Store {
@@ -71,7 +72,7 @@ impl Store {
     ) -> Result<Store, OpenFault>
         ensures ready { IfOk result (λ store. IsReady (H.view host.new) store) }
         ensures state { IfOk result (λ store. (s : State) × IsStateOf (known_in_memory store.memory) s) }
-        ensures serves { (folder : Folder) (l : Layout) → (H.view host.old).files ≡ Some folder → ShapeOf asked folder l → IfOk result (λ store. ServesWorld (H.view host.new) store.memory (new_world l)) }
+        ensures serves { (folder : Folder) (l : Layout) → (H.view host.old).files ≡ Some folder → ShapeOf asked folder l → IfOk result (λ store. ServesWorld (H.view host.new) store.memory store.trace (new_world l)) }
         ensures opens { (folder : Folder) → (H.view host.old).files ≡ Some folder → OnOk result (CanOpen folder) }
         ensures safe { OpensSafely asked (H.view host.old) (H.view host.new) }
         // An analyzer is there for each index.
@@ -91,7 +92,10 @@ impl Store {
         };
         Ok(Store {
             parts,
-            views: ViewBook::new(alloc),
+            session: SessionState {
+                trace: false,
+                views: ViewBook::new(alloc),
+            },
             steps: 0,
             usable: true,
         })
@@ -109,11 +113,11 @@ impl Store {
     ) -> Result<Outcome, StepFault>
         requires ready { IsReady (H.view host.old) self.old }
         requires classes { KnowsClasses (map (λ b. kind (b.vtable, b.value)) kit.old.objects.items) self.old.memory }
-        ensures answers { IfOk result (λ outcome. (w : World) → ServesWorld (H.view host.old) self.old.memory w → Answered (H.view host.new) self.new.memory w (piece_of end piece.now) reply.new outcome) }
+        ensures answers { IfOk result (λ outcome. (w : World) → ServesWorld (H.view host.old) self.old.memory self.old.trace w → Answered (H.view host.new) self.new.memory self.new.trace w (piece_of end piece.now) reply.new outcome) }
         ensures everywhere { IfOk result (λ outcome. (s : State) → IsStateOf (known_in_memory self.old.memory) s → AnsweredButRows self.new.memory s (piece_of end piece.now) reply.new outcome) }
         ensures ready { OnOk result (IsReady (H.view host.new) self.new) }
-        ensures any_moment { (w : World) → ServesWorld (H.view host.old) self.old.memory w → Changes (λ x y. Between w.layout (steps.moves w (piece_of end piece.now)) y) (H.view host.old) (H.view host.new) }
-        ensures spent { IfErr result (OnSpent (λ kind. (w : World) → ServesWorld (H.view host.old) self.old.memory w → spent w.layout (steps.moves w (piece_of end piece.now)) ≡ Some kind)) }
+        ensures any_moment { (w : World) → ServesWorld (H.view host.old) self.old.memory self.old.trace w → Changes (λ x y. Between w.layout (steps.moves w (piece_of end piece.now)) y) (H.view host.old) (H.view host.new) }
+        ensures spent { IfErr result (OnSpent (λ kind. (w : World) → ServesWorld (H.view host.old) self.old.memory self.old.trace w → spent w.layout (steps.moves w (piece_of end piece.now)) ≡ Some kind)) }
         // An analyzer is there for each index, also for a new one. Where none is for a new one, no number was looked at.
         ensures classes { OnOk result (KnowsClasses (map (λ b. kind (b.vtable, b.value)) kit.new.objects.items) self.new.memory) }
         ensures kinds { map (λ b. kind (b.vtable, b.value)) kit.new.objects.items ≡ map (λ b. kind (b.vtable, b.value)) kit.old.objects.items }
@@ -121,12 +125,12 @@ impl Store {
         ensures needed_first { IfErr result (OnSpent (λ _. HasNeeded (map (λ b. kind (b.vtable, b.value)) kit.old.objects.items) (class_needed (asks (known_in_memory self.old.memory) (piece_of end piece.now))))) }
         ensures missing { IfErr result (OnMissingClass (LacksNeeded (map (λ b. kind (b.vtable, b.value)) kit.old.objects.items) (asks (known_in_memory self.old.memory) (piece_of end piece.now)))) }
         ensures damaged { (folder : Folder) → (H.view host.new).files ≡ Some folder → IfErr result (OnStepDamage (FolderShows folder)) }
-        ensures undamaged { (w : World) → ServesWorld (H.view host.old) self.old.memory w → IfErr result (OnStepDamage (λ _. ⊥)) }
+        ensures undamaged { (w : World) → ServesWorld (H.view host.old) self.old.memory self.old.trace w → IfErr result (OnStepDamage (λ _. ⊥)) }
         ensures no_file_call { (s : State) → IsStateOf (known_in_memory self.old.memory) s → NeedsNoFile s (piece_of end piece.now) → host.new ≡ host.old }
         ensures reads_only { asks (known_in_memory self.old.memory) (piece_of end piece.now) ≡ NoChange → Changes Same (H.view host.old) (H.view host.new) }
         ensures unread { (IsQuery (read (piece_of end piece.now)) → ⊥) → (H.view host.new).reads ≡ (H.view host.old).reads }
         // The bound on what a SELECT reads supposes files of at most 2^40 bytes where a relation is on an indexed column.
-        ensures reads { (w : World) → ServesWorld (H.view host.old) self.old.memory w → HasShortRows (H.view host.old).files w.layout (read (piece_of end piece.now)) → (H.view host.new).reads ≤ (H.view host.old).reads + select_reads (H.view host.old).files w.layout (read (piece_of end piece.now)) }
+        ensures reads { (w : World) → ServesWorld (H.view host.old) self.old.memory self.old.trace w → HasShortRows (H.view host.old).files w.layout (read (piece_of end piece.now)) → (H.view host.new).reads ≤ (H.view host.old).reads + select_reads (H.view host.old).files w.layout (read (piece_of end piece.now)) }
         ensures changes { Changes AnyFolderChange (H.view host.old) (H.view host.new) }
         ensures usable { self.new.usable ≡ is_ok result }
         ensures steps { self.new.steps ≡ counted self.old.steps }
@@ -136,7 +140,7 @@ impl Store {
         self.usable = false;
         let outcome = step(
             &mut self.parts,
-            &mut self.views,
+            &mut self.session,
             host,
             kit,
             piece,
@@ -164,8 +168,8 @@ impl Store {
     /// Ends the use of the store: the folder is left with the files of its tables and of the log alone.
     pub fn finish<H: Host>(self, host: &mut H) -> Result<(), Failed>
         requires { IsReady (H.view host.old) self }
-        ensures ends { OnOk result ((w : World) → ServesWorld (H.view host.old) self.memory w → Ended (H.view host.new) (closed w.layout)) }
-        ensures any_moment { (w : World) → ServesWorld (H.view host.old) self.memory w → Changes (λ x y. Between w.layout [] y) (H.view host.old) (H.view host.new) }
+        ensures ends { OnOk result ((w : World) → ServesWorld (H.view host.old) self.memory self.trace w → Ended (H.view host.new) (closed w.layout)) }
+        ensures any_moment { (w : World) → ServesWorld (H.view host.old) self.memory self.trace w → Changes (λ x y. Between w.layout [] y) (H.view host.old) (H.view host.new) }
         ensures unchanged { host.new ≡ host.old }
         ensures causes { DiskCauses (H.view host.old) (H.view host.new) result }
     {

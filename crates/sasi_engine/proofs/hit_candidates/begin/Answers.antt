@@ -2,7 +2,7 @@ use Rattle.std.proofs.Common.{◌∙◌, ℕ, List, Some, refl, subst, arith, �
 use Rattle.std.specs.List.{sum_by}
 use Rattle.sasi_candidates.specs.Candidates.{candidates}
 use Rattle.sasi_candidates.specs.Costs.{file_cost, files_of}
-use Rattle.sasi_candidates.specs.Groups.{where_of}
+use Rattle.sasi_model.specs.Filters.{where_of}
 use Rattle.sasi_lookup.specs.Lookups.{LookupView, Opens, Shows}
 use Rattle.sasi_engine.specs.Asked.{asked_of}
 use Rattle.sasi_engine.specs.HitCandidates.{looked_groups}

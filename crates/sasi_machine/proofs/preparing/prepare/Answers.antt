@@ -1,18 +1,21 @@
-use Rattle.std.proofs.Common.{ap, sym, subst, ◌∙◌}
+use Rattle.std.proofs.Common.{ap, inl, inr, sym, subst, ◌∙◌}
 use Rattle.sasi_machine.specs.ParsedPiece.{IsReadFrom, model_piece}
 use Rattle.sasi_machine.specs.Refusal.{refusal_of}
 use Rattle.sasi_machine.specs.Prepares.{known_by}
-use Rattle.sasi_machine.proofs.PreparedPieces.{bad_steps, nothing_steps}
+use Rattle.sasi_machine.proofs.PreparedPieces.{bad_refused, bad_steps, nothing_steps}
 use Rattle.sasi_machine.proofs.StatementPreparing.{piece_asks, piece_prepares, piece_selects, piece_timeless}
 use Rattle.sasi_machine.proofs.preparing.prepare.Goals as goal
 
 pub returns-in-Nothing-clause-prepares : goal.returns-in-Nothing-clause-prepares
-returns-in-Nothing-clause-prepares g c s of = nothing_steps s _ c.clear.new.self (sym c.in_ok-read.ensures.reads ∙ ap model_piece c.in-Nothing.is) c.clear.ensures
+returns-in-Nothing-clause-prepares g c s of =
+    let nothing = sym c.in_ok-read.ensures.reads ∙ ap model_piece c.in-Nothing.is in
+    (nothing_steps s _ c.clear.new.self nothing c.clear.ensures, inr nothing)
 
 pub returns-in_ok-outcome-in-Bad-clause-prepares : goal.returns-in_ok-outcome-in-Bad-clause-prepares
 returns-in_ok-outcome-in-Bad-clause-prepares g c s of =
-    bad_steps s _ (refusal_of c.in-Bad.refusal) c.clear.new.self c.reply_refusal.new.reply c.in_ok-outcome-in-Bad.outcome (sym c.in_ok-read.ensures.reads ∙ ap model_piece c.in-Bad.is) c.clear.ensures
-    c.in_ok-outcome-in-Bad.ensures.reply c.in_ok-outcome-in-Bad.ensures.outcome
+    let bad = sym c.in_ok-read.ensures.reads ∙ ap model_piece c.in-Bad.is in
+    (bad_steps s _ (refusal_of c.in-Bad.refusal) c.clear.new.self c.reply_refusal.new.reply c.in_ok-outcome-in-Bad.outcome bad c.clear.ensures
+    c.in_ok-outcome-in-Bad.ensures.reply c.in_ok-outcome-in-Bad.ensures.outcome, inl (bad_refused s _ (refusal_of c.in-Bad.refusal) bad))
 
 pub returns-in-Says-clause-prepares : goal.returns-in-Says-clause-prepares
 returns-in-Says-clause-prepares g c =

@@ -1,5 +1,6 @@
 use Rattle.std.proofs.Common.{◌≡◌, map, drop}
-use Rattle.sasi_machine.specs.Where.{key_asked, model_condition}
+use Rattle.sasi_model.specs.Filters.{key_asked}
+use Rattle.sasi_machine.specs.Where.{model_condition}
 use Rattle.sasi_machine.proofs.row_filter.key_in.Given as goal
 
 -- the conditions so far aren't on the key

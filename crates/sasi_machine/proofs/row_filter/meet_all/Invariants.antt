@@ -1,6 +1,6 @@
 use Rattle.std.proofs.Common.{◌≡◌, map, drop}
-use Rattle.sasi_model.specs.Filters.{accepts}
-use Rattle.sasi_machine.specs.Where.{model_condition, where_of}
+use Rattle.sasi_model.specs.Filters.{accepts, where_of}
+use Rattle.sasi_machine.specs.Where.{model_condition}
 use Rattle.sasi_machine.proofs.row_filter.meet_all.Given as goal
 
 -- the conditions so far hold

@@ -4,7 +4,7 @@ use Rattle.sasi_types.specs.declared.value.Value.{Value}
 use Rattle.sasi_model.specs.Cells.{Partition}
 use Rattle.std.specs.FinMap as fin
 use Rattle.sasi_machine.specs.TableRows.{rows_picked}
-use Rattle.sasi_machine.specs.Where.{where_of}
+use Rattle.sasi_model.specs.Filters.{where_of}
 use Rattle.sasi_machine.proofs.Printed.{HasPrinted, counted, printed_all, printed_full, printed_more, printing_begins, rows_more}
 use Rattle.sasi_machine.proofs.Stored.{AllStored, AllTexts, all_stored, all_texts, rows_at_most}
 use Rattle.sasi_machine.proofs.table_rows.print_first.Goals as goal

@@ -1,7 +1,7 @@
 use Rattle.std.proofs.Common.{◌≡◌, map}
 use Rattle.std.specs.FinMap as fin
 use Rattle.sasi_machine.specs.TableRows.{rows_picked}
-use Rattle.sasi_machine.specs.Where.{where_of}
+use Rattle.sasi_model.specs.Filters.{where_of}
 use Rattle.sasi_machine.proofs.Printed.{HasPrinted}
 use Rattle.sasi_machine.proofs.Stored.{AllStored, AllTexts}
 use Rattle.sasi_machine.proofs.table_rows.print_first.Given as goal

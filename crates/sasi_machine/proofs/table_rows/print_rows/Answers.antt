@@ -1,7 +1,6 @@
 use Rattle.std.specs.FinMap as fin
-use Rattle.sasi_model.specs.Filters.{limited}
+use Rattle.sasi_model.specs.Filters.{limited, where_of}
 use Rattle.sasi_machine.specs.TableRows.{rows_picked}
-use Rattle.sasi_machine.specs.Where.{where_of}
 use Rattle.sasi_machine.proofs.Printed.{answer_is}
 use Rattle.sasi_machine.proofs.table_rows.print_rows.Goals as goal
 

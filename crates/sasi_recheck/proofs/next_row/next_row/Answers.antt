@@ -3,8 +3,7 @@ use Rattle.std.proofs.lemmas.Result.{err_from_is_err_and}
 use Rattle.sasi_host.specs.View.{counted}
 use Rattle.sasi_types.specs.declared.class.Class.{Class}
 use Rattle.sasi_model.specs.Cells.{Partition}
-use Rattle.sasi_model.specs.Filters.{answers}
-use Rattle.sasi_machine.specs.Where.{where_of}
+use Rattle.sasi_model.specs.Filters.{answers, where_of}
 use Rattle.sasi_ranges.proofs.Calling.{can_still, fails_nothing, faults_handed, faults_memory, faults_ok, faults_then, spent_err, streamed_then, streams_nothing}
 use Rattle.sasi_recheck.specs.Rows.{KnowsWhere, asked_to, counted_on}
 use Rattle.sasi_recheck.specs.Sources.{GivesFirst, first_price}

@@ -1,7 +1,6 @@
 use Rattle.std.proofs.Common.{◌≡◌, ◌+◌, ◌≤◌, ℕ, List, Ok, drop, map, sum, take}
 use Rattle.sasi_types.specs.declared.column.ColumnType.{ColumnType}
-use Rattle.sasi_model.specs.Filters.{answers}
-use Rattle.sasi_machine.specs.Where.{where_of}
+use Rattle.sasi_model.specs.Filters.{answers, where_of}
 use Rattle.sasi_ranges.specs.StreamCalls.{CanStream, HasStreamed, StreamFaults}
 use Rattle.sasi_recheck.specs.Rows.{counted_on}
 use Rattle.sasi_recheck.specs.Sources.{Candidate}

@@ -40,3 +40,9 @@ returns-clause-row g c =
           ∙ ap (λ (x : List ℕ). c.args.reply.now ++ x) (sym (append-nil (row_line (row_picked c.args.reader.now.picked (key, part)))));
       gives = λ rows left. subst (λ (o : Option (List ℕ × Partition)). GivesNext (RowsLeft source.leaves-value.it c.next_partition.new.self.rows (g.H.Host.view c.next_partition.new.host).files c.args.maps.now) rows o) c.in-Some.is (c.in_ok-key.ensures.row rows left);
     }
+
+pub returns-in_default-clause-counted : goal.returns-in_default-clause-counted
+returns-in_default-clause-counted g c count is none = c.in_ok-key.ensures.counted count is c.in_default.is
+
+pub returns-clause-counted : goal.returns-clause-counted
+returns-clause-counted g c count is none = cc

@@ -26,6 +26,7 @@ loop-turn-init g c =
       same_view = refl;
       count = refl;
       printed = printing_begins c.args.reader.now.picked _ c.args.reply.now;
+      counts = λ count is. is;
       reads = λ most left. (most, left, omega arith);
       kinds = refl;
       read = streams_nothing _ _ _ v tt;
@@ -106,6 +107,9 @@ returns-then-not-printed-clause-ok g c rows left =
     (subst (λ (b : Bool). PrintsNext c.loop-turn.reader.picked (RowsLeft source.leaves-value.it c.loop-turn.reader.rows (g.H.Host.view c.loop-turn.host).files c.args.maps.now) (RowsLeft source.leaves-value.it c.print_next.new.reader.rows (g.H.Host.view c.print_next.new.host).files c.args.maps.now) c.loop-turn.reply c.print_next.new.reply b) c.if-not-printed.true c.in_ok-printed.ensures.row))
     c.count.new.reply c.in_ok-count.ensures.ok rows left
 
+pub returns-then-not-printed-clause-counted : goal.returns-then-not-printed-clause-counted
+returns-then-not-printed-clause-counted g c count is = c.checked.ensures ∙ c.in_ok-printed.ensures.counted count (c.loop-turn.invariant.counts count is) c.if-not-printed.true
+
 pub returns-then-not-printed-clause-reads : goal.returns-then-not-printed-clause-reads
 returns-then-not-printed-clause-reads g c most left =
     let so_far = c.loop-turn.invariant.reads most left in
@@ -145,6 +149,7 @@ loop-turn-preserved g c =
       printed = printing_more c.args.reader.now.picked _ _ _ c.args.reply.now c.loop-turn.reply c.print_next.new.reply c.loop-turn.rows on.printed
           (subst (λ (k : Picked). PrintsNext k (RowsLeft source.leaves-value.it c.loop-turn.reader.rows v.files c.args.maps.now) (RowsLeft source.leaves-value.it c.print_next.new.reader.rows w.files c.args.maps.now) c.loop-turn.reply c.print_next.new.reply true) on.picked
           (subst (λ (b : Bool). PrintsNext c.loop-turn.reader.picked (RowsLeft source.leaves-value.it c.loop-turn.reader.rows v.files c.args.maps.now) (RowsLeft source.leaves-value.it c.print_next.new.reader.rows w.files c.args.maps.now) c.loop-turn.reply c.print_next.new.reply b) c.if-not-printed.false c.in_ok-printed.ensures.row));
+      counts = λ count is. c.in_ok-printed.ensures.counts count (on.counts count is);
       reads = λ most left.
           let so_far = on.reads most left in
           let one = c.in_ok-printed.ensures.reads so_far.0 so_far.1 in

@@ -1,5 +1,5 @@
 use Rattle.std.proofs.Common.{◌≡◌, ◌≤◌, ◌+◌, ℕ, Ok, map}
-use Rattle.sasi_plan.specs.Answers.{ReadsLeft, RowsLeft}
+use Rattle.sasi_plan.specs.Answers.{CountsTo, ReadsLeft, RowsLeft}
 use Rattle.sasi_plan.specs.contracts.plan_candidates.PlanCandidatesCandidates.TheImpl as source
 use Rattle.sasi_ranges.specs.StreamCalls.{CanStream, HasStreamed, StreamFaults}
 use Rattle.sasi_store.proofs.ReadRows.{HasPrinted}
@@ -22,6 +22,7 @@ invariant-loop-turn g l =
       same_view : now.candidates.view ≡ was.candidates.view;
       count : l.rows ≡ l._turn;
       printed : HasPrinted l.fn.reader.picked (RowsLeft source.leaves-value.it was u.files l.maps) (RowsLeft source.leaves-value.it now v.files l.maps) l.fn.reply l.reply l.rows;
+      counts : (count : ℕ) → CountsTo source.leaves-value.it was u.files l.maps count → CountsTo source.leaves-value.it now v.files l.maps count;
       reads : (most : ℕ) → ReadsLeft source.leaves-value.it source.pays-value.it was u.files l.maps most → (rest : ℕ) × ReadsLeft source.leaves-value.it source.pays-value.it now v.files l.maps rest × (v.reads + rest ≤ u.reads + most);
       kinds : map (λ b. (goal.Analyzer-dyn g (b.vtable, b.value)).kind b.value) l.kit.objects.items ≡ map (λ b. (goal.Analyzer-dyn g (b.vtable, b.value)).kind b.value) l.fn.kit.objects.items;
       read : HasStreamed (λ _. Unit {0}) (λ _. ⊥) (λ _. ⊥) (source.opens-value.it was.candidates) (source.opens-value.it now.candidates) u v;

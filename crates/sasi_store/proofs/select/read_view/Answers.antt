@@ -4,8 +4,10 @@ use Rattle.sasi_host.proofs.ChangeLaws.{stays}
 use Rattle.sasi_host.proofs.ContentLaws.{told_files}
 use Rattle.sasi_host.specs.Names.{Folder}
 use Rattle.sasi_folder.specs.Damages.{FolderShows}
+use Rattle.sasi_candidates.specs.Checks.{checked}
 use Rattle.sasi_model.specs.Conditions.{Condition}
-use Rattle.sasi_recheck.specs.Rows.{KnowsWhere}
+use Rattle.sasi_model.specs.Filters.{where_of}
+use Rattle.sasi_recheck.specs.Rows.{KnowsWhere, counted_on}
 use Rattle.sasi_scan.proofs.Costs.{damage_err, ok_as}
 use Rattle.sasi_sources.specs.KeyCandidates.{HasKeyType}
 use Rattle.sasi_views.specs.declared.part.Part.{Part}
@@ -14,13 +16,13 @@ use Rattle.sasi_views.proofs.BookLaws.{give_counted, kept_out, kept_view, take_c
 use Rattle.sasi_views.specs.Parts.{ListsOnce}
 use Rattle.sasi_engine.specs.Plans.{is_file_of, map_numbers}
 use Rattle.sasi_engine.specs.TokenHits.{views_numbered}
-use Rattle.sasi_plan.specs.Answers.{ReadsLeft, RowsLeft}
+use Rattle.sasi_plan.specs.Answers.{CountsTo, ReadsLeft, RowsLeft}
 use Rattle.sasi_plan.specs.Reading.{IsReadIn, PendingReady, PendingShows, plan_reads}
 use Rattle.sasi_plan.specs.contracts.plan_candidates.PlanCandidatesCandidates.TheImpl as source
 use Rattle.sasi_store.specs.Printing.{picked_lines}
 use Rattle.sasi_store.specs.StoreView.{HasNoneOut}
 use Rattle.sasi_store.proofs.Planned.{plan_prints, plan_ready}
-use Rattle.sasi_store.proofs.SelectWorlds.{plan_bounded, reads_within, rows_are, rows_asked, world, world_read}
+use Rattle.sasi_store.proofs.SelectWorlds.{checks_are, if_ok, plan_bounded, reads_within, rows_are, rows_asked, world, world_read}
 use Rattle.sasi_store.proofs.ViewDamage.{view_shows}
 use Rattle.sasi_store.proofs.ViewFiles.{view_once, view_there}
 use Rattle.sasi_store.proofs.select.read_view.Given.{Over}
@@ -116,6 +118,22 @@ returns-clause-ok g c =
     prints all (subst (λ (o : Option Folder). RowsLeft source.leaves-value.it c.new-reader.result.rows o p.maps all) (sym told.1) (c.new-reader.ensures.rows w p.maps is))
     ∙ ap (λ (text : List ℕ). c.args.reply.now ++ text)
     (ap (λ (k : Picked). picked_lines k all) c.new-reader.ensures.picked ∙ rows_are v sound p c.requires.parts c.requires.ready rows plan c.requires.plan l serves)) c.print_rows-printed.ensures.ok
+
+pub returns-clause-counted : goal.returns-clause-counted
+returns-clause-counted g c =
+    let v = g.H.Host.view c.args.host.now in
+    let sound = g.met.H.Host.sound c.args.host.now in
+    let p = c.args.parts.now in
+    let rows = c.args.rows.now in
+    let plan = c.args.plan in
+    let listed = c.in_ok-view.ensures.parts ∙ c.in_ok-current.ensures in
+    if_ok _ _ c.print_rows-printed.result (λ count counts l serves.
+    let told = told_files v serves.told in
+    let w = world v sound p c.requires.parts c.requires.ready rows plan c.requires.plan l serves told.0 told.1 in
+    let is = subst (λ (ps : List Part). IsReadIn w plan ps p.maps) (sym listed) (world_read v sound p c.requires.parts c.requires.ready rows plan c.requires.plan l serves told.0 told.1) in
+    let count_is = counted_on 0 (checked plan.limit (where_of plan.conditions) w.parts) in
+    counts count_is (subst (λ (o : Option Folder). CountsTo source.leaves-value.it c.new-reader.result.rows o p.maps count_is) (sym told.1) (c.new-reader.ensures.counts w p.maps is))
+    ∙ checks_are v sound p c.requires.parts c.requires.ready rows plan c.requires.plan l serves) c.print_rows-printed.ensures.counted
 
 pub returns-clause-reads : goal.returns-clause-reads
 returns-clause-reads g c l serves short =

@@ -13,9 +13,11 @@ use Rattle.sasi_schema.specs.Defined.{definition}
 use Rattle.sasi_schema.specs.SchemaViews.{index_of_new}
 use Rattle.sasi_types.specs.declared.class.Class.{Class}
 use Rattle.sasi_store.specs.StoreView.{memory_of}
+use Rattle.sasi_store.specs.Worlds.{rows_tail, selection_checks}
 use Rattle.sasi_store.proofs.Known.{created_state, defined_state, known_after, known_as, written_state}
 use Rattle.sasi_store.proofs.Prepared.{HasPrepared, blank, blank_definitions, creatable, definable, has_table_for, new_unindexed, selectable, writable}
-use Rattle.sasi_store.proofs.Stepping.{needs_more, select_answered, select_failed, select_within, state_is, step_answered, step_failed, step_made, step_missing, step_unprepared}
+use Rattle.sasi_store.proofs.Stepping.{needs_more, select_answered, select_failed, select_turns, select_within, state_is, step_answered, step_failed, step_made, step_missing, step_traced, step_unprepared, trace_left}
+use Rattle.sasi_store.proofs.SessionLaws.{created_leaves, defined_leaves, flushed_leaves, written_leaves}
 use Rattle.sasi_store.proofs.step.step.Goals as goal
 
 pub returns-in_err-outcome-clause-steps : goal.returns-in_err-outcome-clause-steps
@@ -104,6 +106,7 @@ returns-in_ok-create-in-Create-clause-steps g c =
     step_made (map (λ b. (goal.Analyzer-dyn g (b.vtable, b.value)).kind b.value) c.args.kit.now.objects.items) v (g.H.Host.view c.create.new.host) (memory_of parts) (memory_of c.create.new.parts) piece c.prepare.new.reply (ask.Creates (definition c.in-Create.table)) has.asked (λ none. cc) _
     (λ s. with_new_table s (definition c.in-Create.table)) c.in_ok-create-in-Create.ensures.makes (λ s of. (has.prepares s of).0)
     (λ s of. known_as (memory_of c.create.new.parts) _ _ _ c.in_ok-create-in-Create.ensures.knows (created_state parts.schema.definitions parts.max_timestamp s (definition c.in-Create.table) of))
+    (λ s of. created_leaves s piece c.in-Create.table (has.prepares s of).1)
     (λ known. known_after (map (λ b. (goal.Analyzer-dyn g (b.vtable, b.value)).kind b.value) c.args.kit.now.objects.items) (memory_of c.create.new.parts) _ _ c.in_ok-create-in-Create.ensures.knows (known_created (map (λ b. (goal.Analyzer-dyn g (b.vtable, b.value)).kind b.value) c.args.kit.now.objects.items) parts.schema.definitions (definition c.in-Create.table) (new_unindexed v parts c.requires.ready c.in-Create.table piece c.prepare.new.reply (has.timeless tt (blank v parts c.requires.ready) (blank_definitions v parts c.requires.ready))) known)) tt
 
 pub returns-in_err-write-in-Write-clause-steps : goal.returns-in_err-write-in-Write-clause-steps
@@ -128,6 +131,7 @@ returns-in_ok-write-in-Write-clause-steps g c =
     step_made (map (λ b. (goal.Analyzer-dyn g (b.vtable, b.value)).kind b.value) c.args.kit.now.objects.items) v (g.H.Host.view c.write.new.host) (memory_of parts) (memory_of c.write.new.parts) piece c.prepare.new.reply (ask.Writes c.in-Write.mutation.table c.in-Write.mutation.key c.in-Write.mutation.change) has.asked (λ none. cc) _
     (λ s. state_with_mutation s c.in-Write.mutation) c.in_ok-write-in-Write.ensures.makes (λ s of. (has.prepares s of).0)
     (λ s of. known_as (memory_of c.write.new.parts) _ _ _ c.in_ok-write-in-Write.ensures.knows (written_state parts.schema.definitions parts.max_timestamp s c.in-Write.mutation (has.prepares s of).2 of))
+    (λ s of. written_leaves s piece c.in-Write.mutation (has.prepares s of).1)
     (λ known. known_after (map (λ b. (goal.Analyzer-dyn g (b.vtable, b.value)).kind b.value) c.args.kit.now.objects.items) (memory_of c.write.new.parts) _ _ c.in_ok-write-in-Write.ensures.knows known) tt
 
 pub returns-in_err-flush_unless_empty-in-Flush-clause-steps : goal.returns-in_err-flush_unless_empty-in-Flush-clause-steps
@@ -152,6 +156,7 @@ returns-in_ok-flush_unless_empty-in-Flush-clause-steps g c =
     step_made (map (λ b. (goal.Analyzer-dyn g (b.vtable, b.value)).kind b.value) c.args.kit.now.objects.items) v (g.H.Host.view c.flush_unless_empty.new.host) (memory_of parts) (memory_of c.flush_unless_empty.new.parts) piece c.prepare.new.reply (ask.Flushes c.in-Flush.table) has.asked (λ none. cc) _
     (λ s. s) c.in_ok-flush_unless_empty-in-Flush.ensures.makes (λ s of. (has.prepares s of).0)
     (λ s of. known_as (memory_of c.flush_unless_empty.new.parts) _ _ _ c.in_ok-flush_unless_empty-in-Flush.ensures.knows of)
+    (λ s of. flushed_leaves s piece c.in-Flush.table (has.prepares s of).1)
     (λ known. known_after (map (λ b. (goal.Analyzer-dyn g (b.vtable, b.value)).kind b.value) c.args.kit.now.objects.items) (memory_of c.flush_unless_empty.new.parts) _ _ c.in_ok-flush_unless_empty-in-Flush.ensures.knows known) tt
 
 pub returns-in_err-select-in-Select-clause-steps : goal.returns-in_err-select-in-Select-clause-steps
@@ -165,8 +170,8 @@ returns-in_err-select-in-Select-clause-steps g c =
     let p = err_from_is_err_and c.from_residual-in_err-select-in-Select.result c.from_residual-in_err-select-in-Select.ensures.1 in
     let i = c.in_err-select-in-Select.ensures in
     let prepared = has.timeless tt (blank v parts c.requires.ready) (blank_definitions v parts c.requires.ready) in
-    rw (p.1, p.2) (select_failed (map (λ b. (goal.Analyzer-dyn g (b.vtable, b.value)).kind b.value) c.args.kit.now.objects.items) v (g.H.Host.view c.select.new.host) (g.met.H.Host.sound c.args.host.now) (memory_of parts) piece c.select.ensures.changes has.asked (has.selects tt) _ c.select.new.reply i.damaged i.undamaged i.unspent i.present
-    (select_within v (g.H.Host.view c.select.new.host) (memory_of parts) (blank v parts c.requires.ready) piece c.in-Select.rows (blank_definitions v parts c.requires.ready) prepared.3 c.select.ensures.reads) i.causes)
+    rw (p.1, p.2) (trace_left c.select.ensures.trace (select_failed (map (λ b. (goal.Analyzer-dyn g (b.vtable, b.value)).kind b.value) c.args.kit.now.objects.items) v (g.H.Host.view c.select.new.host) (g.met.H.Host.sound c.args.host.now) (memory_of parts) piece c.select.ensures.changes has.asked (has.selects tt) _ c.select.new.reply i.damaged i.undamaged i.unspent i.present
+    (select_within v (g.H.Host.view c.select.new.host) (memory_of parts) (blank v parts c.requires.ready) piece c.in-Select.rows (blank_definitions v parts c.requires.ready) prepared.3 c.select.ensures.reads) i.causes))
 
 pub returns-in_ok-select-in-Select-clause-steps : goal.returns-in_ok-select-in-Select-clause-steps
 returns-in_ok-select-in-Select-clause-steps g c =
@@ -178,10 +183,12 @@ returns-in_ok-select-in-Select-clause-steps g c =
     let has = subst (HasPrepared parts piece c.prepare.new.reply) c.in-Select.is all in
     let i = c.in_ok-select-in-Select.ensures in
     let prepared = has.timeless tt (blank v parts c.requires.ready) (blank_definitions v parts c.requires.ready) in
-    select_answered (map (λ b. (goal.Analyzer-dyn g (b.vtable, b.value)).kind b.value) c.args.kit.now.objects.items) v (g.H.Host.view c.select.new.host) (g.met.H.Host.sound c.args.host.now) (memory_of parts) piece c.select.ensures.changes has.asked (has.selects tt) _ c.select.new.reply c.requires.ready
-    (λ w serves. (has.prepares (state_of w.layout) (state_is v (memory_of parts) w.layout serves)).0.reply_is ∙ sym (i.ok w.layout serves ∙ ap (λ (front : List ℕ). front ++ answer_rows (state_of w.layout) c.in-Select.rows) prepared.1))
+    trace_left c.select.ensures.trace (select_answered (map (λ b. (goal.Analyzer-dyn g (b.vtable, b.value)).kind b.value) c.args.kit.now.objects.items) v (g.H.Host.view c.select.new.host) (g.met.H.Host.sound c.args.host.now) (memory_of parts) piece c.select.ensures.changes has.asked (has.selects tt) _ c.select.new.reply c.requires.ready
+    (λ w serves.
+    let all = has.prepares (state_of w.layout) (state_is v (memory_of parts) w.layout serves.serves) in
+    select_turns w piece c.in-Select.rows c.args.session.now.trace c.select.new.reply all.0 all.3 serves.trace_is (i.ok w.layout serves.serves ∙ ap (λ (front : List ℕ). front ++ (answer_rows (state_of w.layout) c.in-Select.rows ++ rows_tail c.args.session.now.trace (selection_checks w.layout c.in-Select.rows))) prepared.1))
     (λ s of. let to = (has.prepares s of).0 in (to.state_is, to.outcome_is))
-    (select_within v (g.H.Host.view c.select.new.host) (memory_of parts) (blank v parts c.requires.ready) piece c.in-Select.rows (blank_definitions v parts c.requires.ready) prepared.3 c.select.ensures.reads) i.causes
+    (select_within v (g.H.Host.view c.select.new.host) (memory_of parts) (blank v parts c.requires.ready) piece c.in-Select.rows (blank_definitions v parts c.requires.ready) prepared.3 c.select.ensures.reads) i.causes)
 
 -- ---- a new index
 
@@ -228,6 +235,7 @@ returns-in_ok-define-in-Define-clause-steps g c =
     step_made (map (λ b. (goal.Analyzer-dyn g (b.vtable, b.value)).kind b.value) c.args.kit.now.objects.items) v (g.H.Host.view c.define.new.host) (memory_of parts) (memory_of c.define.new.parts) piece c.prepare.new.reply (ask.Defines c.in-Define.index.table (index_of_new c.in-Define.index)) has.asked (λ none. cc) _
     (λ s. state_with_index s c.in-Define.index.table (index_of_new c.in-Define.index)) c.in_ok-define-in-Define.ensures.makes (λ s of. (has.prepares s of).0)
     (λ s of. known_as (memory_of c.define.new.parts) _ _ _ c.in_ok-define-in-Define.ensures.knows (defined_state parts.schema.definitions parts.max_timestamp s c.in-Define.index.table (index_of_new c.in-Define.index) of))
+    (λ s of. defined_leaves s piece c.in-Define.index (has.prepares s of).1)
     (λ known. known_after (map (λ b. (goal.Analyzer-dyn g (b.vtable, b.value)).kind b.value) c.args.kit.now.objects.items) (memory_of c.define.new.parts) _ _ c.in_ok-define-in-Define.ensures.knows (known_defined (map (λ b. (goal.Analyzer-dyn g (b.vtable, b.value)).kind b.value) c.args.kit.now.objects.items) parts.schema.definitions c.in-Define.index.table (index_of_new c.in-Define.index) (subst (λ (kinds : List Class). HasNeeded kinds (class_needed (ask.Defines c.in-Define.index.table (index_of_new c.in-Define.index)))) c.prepare.ensures.kinds c.in_ok-check_class-in-Define.ensures.there) known))
     (subst (λ (kinds : List Class). HasNeeded kinds (class_needed (ask.Defines c.in-Define.index.table (index_of_new c.in-Define.index)))) c.prepare.ensures.kinds c.in_ok-check_class-in-Define.ensures.there)
 
@@ -248,3 +256,15 @@ returns-in_ok-select-in-Select-clause-no_file_call g c s of needs =
     let all : HasPrepared parts piece c.prepare.new.reply c.in_ok-outcome.field-0 = record { asked = e.asked; prepares = e.prepares; timeless = e.timeless; selects = e.selects } in
     let prepared = (subst (HasPrepared parts piece c.prepare.new.reply) c.in-Select.is all).prepares s of in
     absurd (needs_more s piece (λ statement. SelectsRows s statement c.in-Select.rows) prepared.0.outcome_is prepared.3 needs)
+
+-- ---- TRACE
+
+pub returns-in-Trace-clause-steps : goal.returns-in-Trace-clause-steps
+returns-in-Trace-clause-steps g c =
+    let v = g.H.Host.view c.args.host.now in
+    let parts = c.args.parts.now in
+    let piece = piece_of c.args.end c.args.piece.now in
+    let e = c.in_ok-outcome.ensures in
+    let all : HasPrepared parts piece c.prepare.new.reply c.in_ok-outcome.field-0 = record { asked = e.asked; prepares = e.prepares; timeless = e.timeless; selects = e.selects } in
+    let has = subst (HasPrepared parts piece c.prepare.new.reply) c.in-Trace.is all in
+    step_traced (map (λ b. (goal.Analyzer-dyn g (b.vtable, b.value)).kind b.value) c.args.kit.now.objects.items) v (g.met.H.Host.sound c.args.host.now) (memory_of parts) piece c.prepare.new.reply c.in-Trace.on c.requires.ready has.asked has.prepares

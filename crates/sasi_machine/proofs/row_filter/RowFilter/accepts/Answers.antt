@@ -1,7 +1,7 @@
 use Rattle.std.proofs.Common.{◌≡◌, List, IfOk, map, ap, subst, ◌∙◌}
 use Rattle.sasi_model.specs.Conditions.{Condition}
-use Rattle.sasi_model.specs.Filters.{accepts}
-use Rattle.sasi_machine.specs.Where.{model_condition, where_of}
+use Rattle.sasi_model.specs.Filters.{accepts, where_of}
+use Rattle.sasi_machine.specs.Where.{model_condition}
 use Rattle.sasi_machine.proofs.row_filter.RowFilter.accepts.Goals as goal
 
 pub returns-clause-accepts : goal.returns-clause-accepts

@@ -1,7 +1,7 @@
 use Rattle.std.proofs.Common.{sym, ◌∙◌}
 use Rattle.sasi_types.specs.declared.decorated_key.DecoratedKey.{DecoratedKey}
 use Rattle.sasi_model.specs.Cells.{Partition}
-use Rattle.sasi_machine.specs.Where.{where_of}
+use Rattle.sasi_model.specs.Filters.{where_of}
 use Rattle.sasi_machine.proofs.Printed.{none_counted, none_printed, one_counted, row_printed}
 use Rattle.sasi_machine.proofs.row_query.RowQuery.print_row.Goals as goal
 

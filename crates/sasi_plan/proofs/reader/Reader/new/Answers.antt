@@ -1,7 +1,7 @@
 use Rattle.std.proofs.Common.{None, Some, map, sym, subst}
 use Rattle.sasi_cells.specs.Maps.{merged}
 use Rattle.sasi_candidates.specs.Checks.{checked, rows}
-use Rattle.sasi_candidates.specs.Groups.{where_of}
+use Rattle.sasi_model.specs.Filters.{where_of}
 use Rattle.sasi_candidates.specs.Parts.{maps_of}
 use Rattle.sasi_recheck.specs.Rows.{RecheckView, counted_on}
 use Rattle.sasi_plan.specs.contracts.plan_candidates.PlanCandidatesCandidates.TheImpl as source

@@ -1,7 +1,6 @@
 use Rattle.std.proofs.Common.{◌≡◌, ◌+◌, ◌≤◌, ℕ, Some, map, drop, sum, take, zero, refl, sym, subst, arith, rules}
 use Rattle.sasi_ranges.proofs.Calling.{streams_nothing}
-use Rattle.sasi_model.specs.Filters.{answers}
-use Rattle.sasi_machine.specs.Where.{where_of}
+use Rattle.sasi_model.specs.Filters.{answers, where_of}
 use Rattle.sasi_recheck.specs.Rows.{KnowsWhere, RecheckView, asked_in}
 use Rattle.sasi_recheck.proofs.TurnLaws.{some_left}
 use Rattle.sasi_recheck.proofs.recheck.Recheck.next.Goals as goal

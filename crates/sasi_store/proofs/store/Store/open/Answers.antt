@@ -1,4 +1,4 @@
-use Rattle.std.proofs.Common.{map, subst, sym}
+use Rattle.std.proofs.Common.{map, refl, subst, sym}
 use Rattle.std.proofs.lemmas.Result.{err_from_is_err_and}
 use Rattle.sasi_layout.specs.Classes.{KnowsClasses}
 use Rattle.sasi_layout.specs.Serving.{Serves, StoreInMemory, known_in_memory}
@@ -19,7 +19,7 @@ invariant_of-result g c = (λ usable. c.in-Ok.ensures.parts, new_counted c.new.r
 
 pub returns-clause-serves : goal.returns-clause-serves
 returns-clause-serves g c folder l files shape =
-    subst (λ (s : StoreInMemory). Serves (g.H.Host.view c.open.new.host) s l) (sym c.in-Ok.ensures.memory) (c.in_ok-opened.ensures.serves folder l files shape)
+    record { serves = subst (λ (s : StoreInMemory). Serves (g.H.Host.view c.open.new.host) s l) (sym c.in-Ok.ensures.memory) (c.in_ok-opened.ensures.serves folder l files shape); trace_is = refl }
 
 pub returns-clause-state : goal.returns-clause-state
 returns-clause-state g c =

@@ -2,11 +2,11 @@ use Rattle.std.proofs.Common.{◌+◌, ◌≤◌, subst, sym}
 use Rattle.std.proofs.lemmas.Result.{err_from_is_err_and}
 use Rattle.sasi_host.specs.Disk.{Changes}
 use Rattle.sasi_layout.specs.Between.{Between}
-use Rattle.sasi_layout.specs.Worlds.{ServesWorld, World, steps}
 use Rattle.sasi_model.specs.Pieces.{piece_of}
 use Rattle.sasi_model.specs.Refusals.{read}
 use Rattle.sasi_store.specs.Selects.{HasShortRows, select_reads}
 use Rattle.sasi_store.specs.StoreView.{StoreView}
+use Rattle.sasi_store.specs.Worlds.{ServesWorld, World, steps}
 use Rattle.sasi_store.proofs.store.Store.step.Goals as goal
 
 pub returns-in_err-outcome-clause-any_moment : goal.returns-in_err-outcome-clause-any_moment
@@ -14,17 +14,17 @@ returns-in_err-outcome-clause-any_moment g c =
     let a = g.H.Host.view c.args.host.now in
     let b = g.H.Host.view c.step.new.host in
     let piece = piece_of c.args.end c.args.piece.now in
-    subst (λ (store : StoreView). (w : World) → ServesWorld a store.memory w → Changes (λ x y. Between w.layout (steps.moves w piece) y) a b) c.self.view_is c.step.ensures.steps.any_moment
+    subst (λ (store : StoreView). (w : World) → ServesWorld a store.memory store.trace w → Changes (λ x y. Between w.layout (steps.moves w piece) y) a b) c.self.view_is c.step.ensures.steps.any_moment
 
 pub returns-in_err-outcome-clause-undamaged : goal.returns-in_err-outcome-clause-undamaged
 returns-in_err-outcome-clause-undamaged g c w serves =
     let p = err_from_is_err_and c.from_residual.result c.from_residual.ensures.1 in
     let a = g.H.Host.view c.args.host.now in
-    rw (p.1, p.2) (c.in_err-outcome.ensures.steps.undamaged w (subst (λ (store : StoreView). ServesWorld a store.memory w) (sym c.self.view_is) serves))
+    rw (p.1, p.2) (c.in_err-outcome.ensures.steps.undamaged w (subst (λ (store : StoreView). ServesWorld a store.memory store.trace w) (sym c.self.view_is) serves))
 
 pub returns-in_err-outcome-clause-reads : goal.returns-in_err-outcome-clause-reads
 returns-in_err-outcome-clause-reads g c =
     let a = g.H.Host.view c.args.host.now in
     let b = g.H.Host.view c.step.new.host in
     let piece = piece_of c.args.end c.args.piece.now in
-    subst (λ (store : StoreView). (w : World) → ServesWorld a store.memory w → HasShortRows a.files w.layout (read piece) → b.reads ≤ a.reads + select_reads a.files w.layout (read piece)) c.self.view_is c.step.ensures.steps.reads
+    subst (λ (store : StoreView). (w : World) → ServesWorld a store.memory store.trace w → HasShortRows a.files w.layout (read piece) → b.reads ≤ a.reads + select_reads a.files w.layout (read piece)) c.self.view_is c.step.ensures.steps.reads

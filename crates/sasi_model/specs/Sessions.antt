@@ -3,11 +3,11 @@ use Rattle.std.specs.Prelude.{ℕ, Bool, false, codes, if◌then◌else◌, is_s
 use Rattle.std.specs.Fmt.{decimal}
 use Rattle.sasi_types.specs.declared.statement.Statement.{Statement}
 use Rattle.sasi_types.specs.declared.statement.Statement.TheVariants.{Query, Trace}
-use Rattle.sasi_model.specs.Lines.{line}
-use Rattle.sasi_model.specs.Parsers.{Parser}
 use Rattle.sasi_model.specs.Pieces.{Piece}
-use Rattle.sasi_model.specs.Refusals.{ParsedPiece, Says, read_by, refusal}
 use Rattle.sasi_model.specs.State.{State}
+use Rattle.sasi_model.specs.Parsers.{Parser}
+use Rattle.sasi_model.specs.Refusals.{ParsedPiece, Says, read_by, refusal}
+use Rattle.sasi_model.specs.Lines.{line}
 use Rattle.sasi_model.specs.Step.{step_by}
 
 -- ---- the session
