@@ -1,1 +1,1 @@
-mod TextMaps
+pub mod TextMaps

@@ -7,7 +7,7 @@ ghost use Rattle.sasi_machine.specs.Where.{HasTexts, IsText};
 use crate::indexes::{create_table, define};
 use sasi_analyzers::{Analyzer, Kit, Whole};
 use sasi_cells::Partition;
-use sasi_machine::{Prepared, Reply, RowFilter, RowQuery, Selection, prepare};
+use sasi_machine::{Condition, Prepared, Reply, RowFilter, RowQuery, Selection, prepare};
 use sasi_schema::Schema;
 use sasi_types::{Cell, ColumnType, Key, PieceEnd, Text, Value};
 use std::alloc::Global;
@@ -208,6 +208,16 @@ fn check_key(rt: &impl Abort, filter: &RowFilter, want: Option<&[u8]>) {
     }
 }
 
+/// The filter has so many conditions, and the one at this position asks for a key.
+fn check_conditions(rt: &impl Abort, filter: &RowFilter, count: usize, at: usize) {
+    let conditions = filter.conditions();
+    let is_key = match conditions.get(at) {
+        Some(Condition::OfKey(_)) => true,
+        _ => false,
+    };
+    assert!(rt; (conditions.len(), is_key) == (count, true));
+}
+
 #[test]
 fn key_that_is_asked_for_is_told(rt: HostRuntime) {
     let alloc = rt.alloc();
@@ -216,6 +226,7 @@ fn key_that_is_asked_for_is_told(rt: HostRuntime) {
     let by_key = "SELECT * FROM t WHERE a = 'x' AND k = 'y' AND k = 'z' ALLOW FILTERING;";
     let query = query_of(&rt, alloc, &schema, &mut kit, by_key);
     check_key(&rt, &query.filter, Some(b"y"));
+    check_conditions(&rt, &query.filter, 3, 1);
     let by_text = "SELECT * FROM t WHERE a = 'y';";
     let query = query_of(&rt, alloc, &schema, &mut kit, by_text);
     check_key(&rt, &query.filter, None);
