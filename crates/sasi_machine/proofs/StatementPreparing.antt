@@ -353,7 +353,6 @@ prepares s piece statement reply_old reply (Flushes table) says well empty asks 
     (steps s piece statement s reply_old reply (outcome_of None) says empty asks.0, (statement, says, well, asks.1), flush_there s statement table asks.1)
 prepares s piece statement reply_old reply (Selects rows) says well empty asks =
     (steps s piece statement s [] (answer_rows s rows) (outcome_of None) says refl (rows_step s statement rows asks.1), asks.0 ∙ empty, rows_there s statement rows asks.1, (statement, says, well, asks.1))
-
 prepares s piece statement reply_old reply (Traces on) says well empty asks =
     (steps s piece statement s reply_old reply (outcome_of None) says empty asks.0, (statement, says, well, asks.1))
 

@@ -310,13 +310,14 @@ pub select_turns : (w : World) (piece : Piece) (rows : Selection) (was : Bool) (
     → (was ≡ (steps.after w piece).session.trace) × (steps.reply w piece ≡ reply)
 select_turns w piece rows was reply to says on reply_is =
     let s = state_of w.layout in
-    let turned = selected_turns s piece rows says in
-    (on ∙ ap (λ (x : SessionState). x.trace) (sym (turned.session_is w.session)),
-    ap (λ (tail : Tail). (step s piece).reply ++ tail_bytes tail (piece_checks w.layout (read piece))) (turned.tail_is w.session)
-    ∙ ap (λ (b : Bool). (step s piece).reply ++ rows_tail b (piece_checks w.layout (read piece))) (sym on)
-    ∙ ap (λ (n : ℕ). (step s piece).reply ++ rows_tail was n) (select_checks w.layout s piece rows (sym (definitions_are w.layout)) says)
-    ∙ ap (λ (front : List ℕ). front ++ rows_tail was (selection_checks w.layout rows)) to.reply_is
-    ∙ sym reply_is)
+    let turned = selected_turns s piece rows says in (
+      on ∙ ap (λ (x : SessionState). x.trace) (sym (turned.session_is w.session)),
+      ap (λ (tail : Tail). (step s piece).reply ++ tail_bytes tail (piece_checks w.layout (read piece))) (turned.tail_is w.session)
+          ∙ ap (λ (b : Bool). (step s piece).reply ++ rows_tail b (piece_checks w.layout (read piece))) (sym on)
+          ∙ ap (λ (n : ℕ). (step s piece).reply ++ rows_tail was n) (select_checks w.layout s piece rows (sym (definitions_are w.layout)) says)
+          ∙ ap (λ (front : List ℕ). front ++ rows_tail was (selection_checks w.layout rows)) to.reply_is
+          ∙ sym reply_is,
+    )
 
 none_refused : (o : Option Refusal) → Done ≡ outcome_of o → o ≡ None
 none_refused None done = refl

@@ -13,9 +13,11 @@ returns-in-Nothing-clause-prepares g c s of =
 
 pub returns-in_ok-outcome-in-Bad-clause-prepares : goal.returns-in_ok-outcome-in-Bad-clause-prepares
 returns-in_ok-outcome-in-Bad-clause-prepares g c s of =
-    let bad = sym c.in_ok-read.ensures.reads ∙ ap model_piece c.in-Bad.is in
-    (bad_steps s _ (refusal_of c.in-Bad.refusal) c.clear.new.self c.reply_refusal.new.reply c.in_ok-outcome-in-Bad.outcome bad c.clear.ensures
-    c.in_ok-outcome-in-Bad.ensures.reply c.in_ok-outcome-in-Bad.ensures.outcome, inl (bad_refused s _ (refusal_of c.in-Bad.refusal) bad))
+    let bad = sym c.in_ok-read.ensures.reads ∙ ap model_piece c.in-Bad.is in (
+      bad_steps s _ (refusal_of c.in-Bad.refusal) c.clear.new.self c.reply_refusal.new.reply c.in_ok-outcome-in-Bad.outcome bad c.clear.ensures
+          c.in_ok-outcome-in-Bad.ensures.reply c.in_ok-outcome-in-Bad.ensures.outcome,
+      inl (bad_refused s _ (refusal_of c.in-Bad.refusal) bad),
+    )
 
 pub returns-in-Says-clause-prepares : goal.returns-in-Says-clause-prepares
 returns-in-Says-clause-prepares g c =
