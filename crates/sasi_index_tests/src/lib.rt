@@ -8,4 +8,6 @@ mod fixture;
 #[cfg(test)]
 mod ranges;
 #[cfg(test)]
+mod roots;
+#[cfg(test)]
 mod searches;

@@ -20,8 +20,8 @@ use Rattle.sasi_formats.specs.Failures.{Fails}
 use Rattle.sasi_formats.specs.Codings.{passing, number_of, one_of}
 use Rattle.sasi_formats.specs.Fields.{◌&◌, checked, number, fixed, prefixed}
 use Rattle.sasi_formats.specs.Headers.{file_front}
-use Rattle.sasi_formats.proofs.Encoding.{encodes}
-use Rattle.sasi_formats.proofs.Fitting.{checked_fits, number_fits}
+use Rattle.sasi_formats.proofs.Encoding.{encodes, fits}
+use Rattle.sasi_formats.proofs.Fitting.{checked_fits, fits_checked, number_fits}
 use Rattle.sasi_formats.proofs.Headers.{fixed_of_size, prefixed_of_size}
 use Rattle.sasi_formats.proofs.OfSize.{IsOfSize, IsRule, field_of_size, decoded_of_size, both_of_size}
 use Rattle.sasi_formats.proofs.Prefixes.{fixed_fits, prefixed_fails_behind, prefixed_fits, prefixed_got}
@@ -169,3 +169,7 @@ footer_fits at f are =
       ),
       refl,
     )
+
+-- the spill tree that a footer names can stand there
+pub footer_spill : (at : ℕ) (f : Footer) (bytes : Bytes) → Encodes (footer at) f bytes → is_spill f.blocks.first f.spill ≡ true
+footer_spill at f bytes is = (fits_checked rule.Place 8 (is_spill f.blocks.first) tree f.spill (fits (footer at) f bytes is).0.1.1.1.1.1.0).1

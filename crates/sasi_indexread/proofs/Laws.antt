@@ -14,10 +14,10 @@ use Rattle.sasi_host.proofs.Offsets.{first_at, second_at}
 use Rattle.sasi_formats.specs.Formats.{Fits}
 use Rattle.sasi_tokentree.specs.Format.{HasTree, above, level_bytes, levels, size, top, tree_bytes, tree_ref}
 use Rattle.sasi_tokentree.proofs.Sizes.{level_length, more_levels, one_level}
-use Rattle.sasi_tokentree.proofs.Laws.{root_offset}
+use Rattle.sasi_tokentree.proofs.Laws.{is_ref_of, root_offset}
 use Rattle.sasi_termblocks.specs.declared.term_entry.TermEntry.{TermEntry}
 use Rattle.sasi_termblocks.specs.Blocks.{IsRefOf, items_of, levels_bytes, term_item}
-use Rattle.sasi_termblocks.specs.Scans.{HasBlocks, HaveBytes, terms_of, IsRising as AreRisingTerms}
+use Rattle.sasi_termblocks.specs.Scans.{HasBlocks, HaveBytes, HaveTrees, terms_of, IsRising as AreRisingTerms}
 use Rattle.sasi_termblocks.proofs.EntryLaws.{entry_fits}
 use Rattle.sasi_termblocks.proofs.Groups.{AreItems, are_small, items_are}
 use Rattle.sasi_indexwrite.specs.declared.footer.Footer.{Footer}
@@ -68,6 +68,14 @@ entries_fit at (one ∷ others) all lt =
     let next = at + length (tree_bytes at one.1) in
     let both = length-append (tree_bytes at one.1) (trees_bytes next others) in
     (entry_fits one.0 (tree_ref at one.1) all.0.short (omega (arith, root_small at one.1, both, lt)) (omega (arith, pairs_few at one.1, both, lt)) (omega (arith, all.0.some)), entries_fit next others all.1 (omega (arith, both, lt)))
+
+-- their trees can stand in front of what follows them
+entries_refer : (first at : ℕ) (terms : List TermPairs) → AllByRecursion IsTerm terms → 16 ≤ at → at + length (trees_bytes at terms) ≤ first → first ≤ 2 ^ 62 → HaveTrees first (entries_from at terms)
+entries_refer first at [] all behind within short = tt
+entries_refer first at (one ∷ others) all behind within short =
+    let next = at + length (tree_bytes at one.1) in
+    let both = length-append (tree_bytes at one.1) (trees_bytes next others) in
+    (is_ref_of 16 at first one.1 (omega (arith, all.0.some)) behind (omega (arith, both, within)) short, entries_refer first next others all.1 (omega (arith, behind)) (omega (arith, both, within)) short)
 
 pub terms_same : (at : ℕ) (terms : List TermPairs) → terms_of (entries_from at terms) ≡ terms_in terms
 terms_same at [] = refl
@@ -224,6 +232,7 @@ module _ (bytes : Bytes) (content : IndexContent) (is : IsIndexFile bytes conten
       referred = subst (λ (n : ℕ). IsRefOf n (entries content) is.blocks) (sym is.referred.first) is.referred;
       rising = subst (λ (l : List Bytes). AreRisingTerms l) (sym (terms_same 16 content.terms)) is.content_is.rising;
       fit = have_bytes;
+      trees = entries_refer is.blocks.first 16 content.terms is.content_is.each (omega arith) (omega (arith, is.referred.first, front_long, page_up (length (front content)))) (omega (arith, is.referred.first, whole_length, short));
       short = short;
     }
 
@@ -253,7 +262,7 @@ module _ (bytes : Bytes) (content : IndexContent) (is : IsIndexFile bytes conten
           levels = subst (λ (n : ℕ). has_levels at n r.blocks r.levels ≡ true) (sym is.referred.first)
               (levels_pass r.levels at first (items_of (entries content)) are room is.referred.levels_are r.blocks is.referred.blocks_are);
           top = top_passes r.levels at first r.top (items_of (entries content)) are room is.referred.levels_are is.referred.top_is;
-          spill = subst (λ (n : ℕ). is_spill n (spill_ref content) ≡ true) (sym is.referred.first) (spill_passes first (spill_at content) content.spill (omega arith) (omega (arith, front_long, up)));
+          spill = subst (λ (n : ℕ). is_spill n (spill_ref content) ≡ true) (sym is.referred.first) (spill_passes first (spill_at content) content.spill (omega arith) (omega (arith, front_long, up)) (omega (arith, below)));
           terms = term_count_passes r.blocks r.terms (items_of (entries content)) (are_small (items_of (entries content)) are_items) is.referred.blocks_are (is.referred.terms_are ∙ sym (length-map (entries content) term_item));
         })
 

@@ -1,12 +1,12 @@
 -- The tests of a footer's numbers, for those of an index file.
-use Rattle.std.specs.Prelude.{◌≡◌, ℕ, zero, suc, ◌+◌, ◌-◌, ◌*◌, ◌/◌, ◌%◌, ◌<◌, ◌≤◌, nat_le, nat_lt, ◌==◌, ◌&&◌, Bool, true, false, if◌then◌else◌, List, [], ◌∷◌, length, refl}
+use Rattle.std.specs.Prelude.{◌≡◌, ℕ, zero, suc, ◌+◌, ◌-◌, ◌*◌, ◌/◌, ◌%◌, ◌^◌, ◌<◌, ◌≤◌, nat_le, nat_lt, ◌==◌, ◌&&◌, Bool, true, false, if◌then◌else◌, List, [], ◌∷◌, length, refl}
 use Rattle.std.proofs.Common.{◌∙◌, ap, arith, rules, ⊎_elim}
 use Rattle.std.proofs.lemmas.Bool.{le-leb, lt-leb}
 use Rattle.std.proofs.lemmas.Bool.Decides.{leb_tells}
 use Rattle.sasi_types.specs.declared.tree.Pair.{Pair}
 use Rattle.sasi_tokentree.specs.Format.{top, tree_bytes, tree_ref}
-use Rattle.sasi_tokentree.specs.Damages.{is_node_offset}
-use Rattle.sasi_tokentree.proofs.Laws.{root_offset}
+use Rattle.sasi_tokentree.specs.Damages.{is_tree_ref}
+use Rattle.sasi_tokentree.proofs.Laws.{is_ref_of}
 use Rattle.sasi_termblocks.specs.Blocks.{Item, EndsAfter, blocks, top_pointer}
 use Rattle.sasi_termblocks.specs.Writing.{AreSmall}
 use Rattle.sasi_termblocks.proofs.Levels.{some_blocks}
@@ -93,17 +93,14 @@ pub top_small : (levels at first : ℕ) (items : List Item) (are : AreLevels lev
 top_small zero at first items are room ends = omega arith
 top_small (suc more) at first items are room ends = omega (arith, are.top, are.last (omega (arith, more_blocks (suc more) first items ends (omega arith))), room)
 
-pub spill_passes : (first at : ℕ) (pairs : List Pair) → 16 ≤ at → at + length (tree_bytes at pairs) ≤ first → is_spill first (tree_ref at pairs) ≡ true
+pub spill_passes : (first at : ℕ) (pairs : List Pair) → 16 ≤ at → at + length (tree_bytes at pairs) ≤ first → first ≤ 2 ^ 62 → is_spill first (tree_ref at pairs) ≡ true
 unfolding top
-spill_passes first at [] behind within = refl
-spill_passes first at (one ∷ others) behind within =
+spill_passes first at [] behind within short = refl
+spill_passes first at (one ∷ others) behind within short =
     let pairs = one ∷ others in
-    let place = root_offset at pairs (omega arith) in
-    let root = (tree_ref at pairs).root in
+    let ref = tree_ref at pairs in
     let test : (length pairs == 0) ≡ false = search rules in
-    let low : 16 ≤ root = omega (arith, behind, place.behind) in
-    let high : root + 24 ≤ first = omega (arith, within, place.within) in
-    ap (λ (t : Bool). if t then (root == 0) else is_node_offset 16 first root) test ∙ both (nat_le 16 root) (nat_le (root + 24) first) (search (rules, low)) (search (rules, high))
+    ap (λ (t : Bool). if t then (ref.root == 0) else is_tree_ref 16 first ref) test ∙ is_ref_of 16 at first pairs (omega arith) behind within short
 
 pub term_count_passes : (count terms : ℕ) (items : List Item) → AreSmall items → count ≡ length (blocks items) → terms ≡ length items → is_term_count count terms ≡ true
 term_count_passes count terms items small same long = ⊎_elim

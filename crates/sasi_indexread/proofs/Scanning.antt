@@ -28,9 +28,10 @@ use Rattle.sasi_treemerge.specs.Merges.{Adds, AdvancesTo, Gives}
 use Rattle.sasi_termblocks.specs.declared.block_ref.BlockRef.{BlockRef}
 use Rattle.sasi_termblocks.specs.declared.term_entry.TermEntry.{TermEntry}
 use Rattle.sasi_termblocks.specs.Damages.{ShowsBlocks}
-use Rattle.sasi_termblocks.specs.Scans.{CountsBelow, HasBlocks, HasPassed, NoFalseDamage, ReadsFirst, ReadsNext, ReadsSome, StepsTo, terms_of}
+use Rattle.sasi_termblocks.specs.Windows.{RefersWithin}
+use Rattle.sasi_termblocks.specs.Scans.{CountsBelow, GivesTree, HasBlocks, HasPassed, NoFalseDamage, ReadsFirst, ReadsNext, ReadsSome, StepsTo, terms_of}
 use Rattle.sasi_indexwrite.specs.Content.{IndexContent}
-use Rattle.sasi_indexwrite.specs.Format.{entries}
+use Rattle.sasi_indexwrite.specs.Format.{entries, is_spill}
 use Rattle.sasi_indexread.specs.Asked.{asked_lists, asks_none, is_match, lower}
 use Rattle.sasi_indexread.specs.Collects.{AddsEntry, AddsIf, AddsList, NoFalseListDamage, ShowsList}
 use Rattle.sasi_indexread.specs.Damages.{IsListedTree, ShowsIndex}
@@ -58,19 +59,19 @@ adds_listed v w opened file list old new adds leads listed = λ bytes is. from a
         All-permutation (λ (s : TreeSource). IsListedTree opened bytes s.tree.value.tree) (next ∷ old) new put
         (All-cons (λ (s : TreeSource). IsListedTree opened bytes s.tree.value.tree) next old (subst (λ (t : TreeRef). IsListedTree opened bytes t) (sym advances.0) (leads bytes is)) (listed bytes is))
 
--- an entry that stands in the file leads to its tree
-pub entry_leads : (v : View) (opened : OpenIndexFile) (entry : TermEntry) (list : TreeRef) → ReadsSome v opened.file (Some entry) → entry.list ≡ Some list → (bytes : Bytes) → contents v opened.file ≡ Some bytes → IsListedTree opened bytes list
-entry_leads v opened entry list stands is bytes reads =
+-- an entry that stands in the file, and whose tree can stand there, leads to its tree
+pub entry_leads : (v : View) (opened : OpenIndexFile) (entry : TermEntry) (list : TreeRef) → ReadsSome v opened.file (Some entry) → GivesTree opened.blocks.first (Some entry) → entry.list ≡ Some list → (bytes : Bytes) → contents v opened.file ≡ Some bytes → IsListedTree opened bytes list
+entry_leads v opened entry list stands possible is bytes reads =
     let h = stands bytes reads in
-    of_term (record { page = h.0; block = h.2; stands = h.3; index = h.1; entry = entry; has = h.5; list = is })
+    of_term (record { page = h.0; block = h.2; stands = h.3; index = h.1; entry = entry; has = h.5; list = is; possible = subst (λ (o : Option TreeRef). RefersWithin opened.blocks.first o) is possible })
 
 pub entry_listed : (v w : View) (opened : OpenIndexFile) (file : FileName) (op : Op) (body : Bytes) (entry : TermEntry) (more : Bool) (old new : List TreeSource) → AddsEntry w file opened.kind op body entry more old new → ReadsSome v opened.file (Some entry)
-    → AreListed v opened old → AreListed v opened new
-entry_listed v w opened file op body entry more old new adds stands listed = by (is_match opened.kind op body entry.term) adds
+    → GivesTree opened.blocks.first (Some entry) → AreListed v opened old → AreListed v opened new
+entry_listed v w opened file op body entry more old new adds stands possible listed = by (is_match opened.kind op body entry.term) adds
   where
     with_list : (list : Option TreeRef) → entry.list ≡ list → AddsList w file list old new → AreListed v opened new
     with_list None is same = subst (λ (l : List TreeSource). AreListed v opened l) (sym same) listed
-    with_list (Some list) is adds = adds_listed v w opened file list old new adds (entry_leads v opened entry list stands is) listed
+    with_list (Some list) is adds = adds_listed v w opened file list old new adds (entry_leads v opened entry list stands possible is) listed
 
     by : (test : Bool) → AddsIf w file op entry test more old new → AreListed v opened new
     by false added = subst (λ (l : List TreeSource). AreListed v opened l) (sym added.1) listed
@@ -79,16 +80,17 @@ entry_listed v w opened file op body entry more old new adds stands listed = by 
 -- ---- damage
 
 -- of the tree of an entry
-pub list_shown : (v w : View) (opened : OpenIndexFile) (file : FileName) (entry : TermEntry) (f : ReadFault) → Changes Same v w → file ≡ opened.file → ReadsSome v opened.file (Some entry) → DamageShown w file (ShowsList file entry) f
-    → DamageShown v opened.file (ShowsIndex opened) f
-list_shown v w opened file entry f same named stands shown =
-    shown_as (ShowsList opened.file entry) (ShowsIndex opened) v opened.file f (λ bytes damage is shows. in_tree shows.0 (entry_leads v opened entry shows.0 stands shows.1 bytes is) (of_tree shows.2))
+pub list_shown : (v w : View) (opened : OpenIndexFile) (file : FileName) (entry : TermEntry) (f : ReadFault) → Changes Same v w → file ≡ opened.file → ReadsSome v opened.file (Some entry) → GivesTree opened.blocks.first (Some entry)
+    → DamageShown w file (ShowsList file entry) f → DamageShown v opened.file (ShowsIndex opened) f
+list_shown v w opened file entry f same named stands possible shown =
+    shown_as (ShowsList opened.file entry) (ShowsIndex opened) v opened.file f (λ bytes damage is shows. in_tree shows.0 (entry_leads v opened entry shows.0 stands possible shows.1 bytes is) (of_tree shows.2))
     (shown_before (ShowsList opened.file entry) v w opened.file f same (subst (λ (n : FileName). DamageShown w n (ShowsList n entry) f) named shown))
 
 -- of the spill tree
-pub spill_shown : (v : View) (opened : OpenIndexFile) (file : FileName) (list : TreeRef) (f : ReadFault) → file ≡ opened.file → list ≡ opened.spill → DamageShown v file (ShowsTree file list) f → DamageShown v opened.file (ShowsIndex opened) f
-spill_shown v opened file list f named is shown =
-    shown_as (ShowsTree opened.file list) (ShowsIndex opened) v opened.file f (λ bytes damage told shows. in_tree list (of_spill is) (of_tree shows)) (subst (λ (n : FileName). DamageShown v n (ShowsTree n list) f) named shown)
+pub spill_shown : (v : View) (opened : OpenIndexFile) (file : FileName) (list : TreeRef) (f : ReadFault) → file ≡ opened.file → list ≡ opened.spill → is_spill opened.blocks.first opened.spill ≡ true
+    → DamageShown v file (ShowsTree file list) f → DamageShown v opened.file (ShowsIndex opened) f
+spill_shown v opened file list f named is possible shown =
+    shown_as (ShowsTree opened.file list) (ShowsIndex opened) v opened.file f (λ bytes damage told shows. in_tree list (of_spill is possible) (of_tree shows)) (subst (λ (n : FileName). DamageShown v n (ShowsTree n list) f) named shown)
 
 -- of the blocks
 pub blocks_shown : (v w : View) (opened : OpenIndexFile) (file : FileName) (ref : BlockRef) (f : ReadFault) → Changes Same v w → file ≡ opened.file → ref ≡ opened.blocks → DamageShown w file (ShowsBlocks file ref) f → DamageShown v opened.file (ShowsIndex opened) f

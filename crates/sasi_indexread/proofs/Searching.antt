@@ -24,6 +24,7 @@ use Rattle.sasi_treemerge.specs.MergeDamages.{NoFalseDamageOf, ShowsSources}
 use Rattle.sasi_treemerge.specs.Merges.{Adds, CanMerge, Gives, IsLeast, IsSourceIn, TreesStay, sources_of}
 use Rattle.sasi_treemerge.proofs.Merging.{adds_list}
 use Rattle.sasi_indexwrite.specs.Content.{IndexContent, TermPairs}
+use Rattle.sasi_indexwrite.specs.Format.{is_spill}
 use Rattle.sasi_indexread.specs.Asked.{asked_lists, asks_none, is_asked_term, is_match}
 use Rattle.sasi_indexread.specs.Damages.{IsListedTree, ShowsIndex}
 use Rattle.sasi_indexread.specs.Damages.IsListedTree.{of_spill}
@@ -50,9 +51,10 @@ spill_gives v opened file list last floor old new short named is none adds conte
     adds_list v file on.bytes [] last floor list content.spill old new adds (ap (λ (n : FileName). contents v n) named ∙ on.reads)
     (subst (λ (t : TreeRef). HasTree on.bytes t content.spill) (sym is) (spill_there v opened content on short)) (no_lists on.bytes last floor old none)
 
-pub spill_listed : (v : View) (opened : OpenIndexFile) (file : FileName) (list : TreeRef) (old new : List TreeSource) → list ≡ opened.spill → old ≡ [] → Adds v file list old new → AreListed v opened new
-spill_listed v opened file list old new is none adds =
-    adds_listed v v opened file list old new adds (λ bytes told. of_spill is) (λ bytes told. subst (λ (l : List TreeSource). All (λ (s : TreeSource). IsListedTree opened bytes s.tree.value.tree) l) (sym none) (All-nil (λ (s : TreeSource). IsListedTree opened bytes s.tree.value.tree)))
+pub spill_listed : (v : View) (opened : OpenIndexFile) (file : FileName) (list : TreeRef) (old new : List TreeSource) → list ≡ opened.spill → is_spill opened.blocks.first opened.spill ≡ true → old ≡ [] → Adds v file list old new
+    → AreListed v opened new
+spill_listed v opened file list old new is possible none adds =
+    adds_listed v v opened file list old new adds (λ bytes told. of_spill is possible) (λ bytes told. subst (λ (l : List TreeSource). All (λ (s : TreeSource). IsListedTree opened bytes s.tree.value.tree) l) (sym none) (All-nil (λ (s : TreeSource). IsListedTree opened bytes s.tree.value.tree)))
 
 none_kept : (test : TermPairs → Bool) (terms : List TermPairs) → ((one : TermPairs) → test one ≡ false) → filter test terms ≡ []
 none_kept test [] none = refl

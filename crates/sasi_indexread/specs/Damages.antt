@@ -1,5 +1,5 @@
 -- Where a file breaks the format of an index file, and what is there.
-use Rattle.std.specs.Prelude.{◌≡◌, ℕ, ◌*◌, Some}
+use Rattle.std.specs.Prelude.{◌≡◌, ℕ, ◌*◌, Some, true}
 use Rattle.sasi_types.specs.declared.column.ColumnType.{ColumnType}
 use Rattle.sasi_types.specs.declared.tree.TreeRef.{TreeRef}
 use Rattle.sasi_host.specs.declared.damage.Damage.{Damage}
@@ -9,14 +9,15 @@ use Rattle.sasi_host.specs.Damages.{HasAt}
 use Rattle.sasi_termblocks.specs.declared.term_entry.TermEntry.{TermEntry}
 use Rattle.sasi_termblocks.specs.Damages.{ShowsBlocks}
 use Rattle.sasi_termblocks.specs.Entries.{term_entry}
-use Rattle.sasi_termblocks.specs.Windows.{HasEntry}
+use Rattle.sasi_termblocks.specs.Windows.{HasEntry, RefersWithin}
 use Rattle.sasi_treemerge.specs.MergeDamages.{ShowsPairs}
 use Rattle.sasi_indexwrite.specs.declared.footer.Footer.{Footer}
+use Rattle.sasi_indexwrite.specs.Format.{is_spill}
 use Rattle.sasi_indexread.specs.HeaderAndFooter.{HasHeaderAndFooter, ShowsHeaderOrFooter}
 use Rattle.sasi_indexread.specs.Opened.{OpenIndexFile}
 
--- an entry of a block leads to the tree with this reference
-pub record LeadsToTree (bytes : Bytes) (tree : TreeRef) : Type 0 where
+-- an entry of a block leads to the tree with this reference, which can stand between the header and the first term block, at this offset
+pub record LeadsToTree (first : ℕ) (bytes : Bytes) (tree : TreeRef) : Type 0 where
   pub page : ℕ
   pub block : Bytes
   pub stands : HasAt bytes (4096 * page) block
@@ -24,13 +25,14 @@ pub record LeadsToTree (bytes : Bytes) (tree : TreeRef) : Type 0 where
   pub entry : TermEntry
   pub has : HasEntry term_entry block index entry
   pub list : entry.list ≡ Some tree
+  pub possible : RefersWithin first (Some tree)
 
--- the tree is that of the spill, or one to which an entry leads
+-- the tree is that of the spill, which can stand there too, or one to which an entry leads
 pub data IsListedTree (opened : OpenIndexFile) (bytes : Bytes) (tree : TreeRef) : Type 0 where
-  of_spill : tree ≡ opened.spill → IsListedTree opened bytes tree
-  of_term : LeadsToTree bytes tree → IsListedTree opened bytes tree
+  of_spill : tree ≡ opened.spill → is_spill opened.blocks.first opened.spill ≡ true → IsListedTree opened bytes tree
+  of_term : LeadsToTree opened.blocks.first bytes tree → IsListedTree opened bytes tree
 
--- the damage is that of the blocks, or of a tree to which the file leads
+-- the damage is that of the blocks, with the references in them, or of a tree to which the file leads
 pub data ShowsIndex (opened : OpenIndexFile) (bytes : Bytes) (damage : Damage) : Type 0 where
   in_blocks : ShowsBlocks opened.file opened.blocks bytes damage → ShowsIndex opened bytes damage
   in_tree : (tree : TreeRef) → IsListedTree opened bytes tree → ShowsPairs opened.file tree bytes damage → ShowsIndex opened bytes damage

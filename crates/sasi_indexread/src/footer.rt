@@ -1,11 +1,12 @@
 // Reads the header and the footer of an index file.
-ghost use Rattle.std.specs.Prelude.{◌≡◌, ◌≤◌, length, IfErr, IfOk, Some};
+ghost use Rattle.std.specs.Prelude.{◌≡◌, ◌≤◌, length, true, IfErr, IfOk, Some};
 ghost use Rattle.sasi_host.specs.declared.name.FileName.{FileName};
 ghost use Rattle.sasi_host.specs.Names.{Bytes};
 ghost use Rattle.sasi_host.specs.View.{ReadCost, contents};
 ghost use Rattle.sasi_host.specs.Damages.{DamageShown};
 ghost use Rattle.sasi_host.specs.PageReading.{CanRead, HasRead};
 ghost use Rattle.sasi_framing.specs.Framing.{BeginsAndEndsWith, OpensWithinPages};
+ghost use Rattle.sasi_indexwrite.specs.Format.{is_spill};
 ghost use Rattle.sasi_indexread.specs.Opened.{NoFalseIndexDamage};
 ghost use Rattle.sasi_indexread.specs.HeaderAndFooter.{HasHeaderAndFooter, ShowsHeaderOrFooter};
 
@@ -38,6 +39,7 @@ fn decode(
     requires footer { length footer.now ≡ 72 }
     requires size { 72 ≤ size }
     ensures ok { IfOk result (λ read. (bytes : Bytes) → BeginsAndEndsWith size header.now footer.now bytes → HasHeaderAndFooter bytes read.0 read.1) }
+    ensures spill { IfOk result (λ read. is_spill read.1.blocks.first read.1.spill ≡ true) }
     ensures damaged { IfErr result (λ damage. (bytes : Bytes) → BeginsAndEndsWith size header.now footer.now bytes → ShowsHeaderOrFooter file bytes damage) }
 {
     let at = size - FOOTER as u64;
@@ -56,6 +58,7 @@ pub fn read_footer<H: Host, P: PageReader>(
 ) -> Result<(ColumnType, Footer), ReadFault>
     requires read { CanRead (P.agrees pages.old) (H.view host.old) file }
     ensures ok { IfOk result (λ read. (bytes : Bytes) → contents (H.view host.old) file ≡ Some bytes → HasHeaderAndFooter bytes read.0 read.1) }
+    ensures spill { IfOk result (λ read. is_spill read.1.blocks.first read.1.spill ≡ true) }
     ensures damaged { IfErr result (DamageShown (H.view host.old) file (ShowsHeaderOrFooter file)) }
     ensures undamaged { IfErr result (NoFalseIndexDamage (H.view host.old) file) }
     ensures read { HasRead (P.agrees pages.new) (P.covers pages.old) (P.covers pages.new) (H.view host.old) (H.view host.new) file }

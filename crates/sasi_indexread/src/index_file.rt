@@ -1,5 +1,5 @@
 // Reads an index file.
-ghost use Rattle.std.specs.Prelude.{◌≡◌, IfErr, IfOk, Some};
+ghost use Rattle.std.specs.Prelude.{◌≡◌, true, IfErr, IfOk, Some};
 ghost use Rattle.sasi_host.specs.declared.name.FileName.{FileName};
 ghost use Rattle.sasi_host.specs.Names.{Bytes};
 ghost use Rattle.sasi_host.specs.View.{ReadCost, contents};
@@ -8,6 +8,7 @@ ghost use Rattle.sasi_host.specs.PageReading.{CanRead, HasRead};
 ghost use Rattle.sasi_framing.specs.Framing.{OpensWithinPages};
 ghost use Rattle.sasi_indexwrite.specs.Content.{IndexContent};
 ghost use Rattle.sasi_indexwrite.specs.Files.{IsIndexFile};
+ghost use Rattle.sasi_indexwrite.specs.Format.{is_spill};
 ghost use Rattle.sasi_indexread.specs.Opened.{IsOpenOn, NoFalseIndexDamage};
 ghost use Rattle.sasi_indexread.specs.HeaderAndFooter.{HasHeaderAndFooter, ShowsHeaderOrFooter};
 ghost use Rattle.sasi_indexread.specs.Searches.{IsFresh};
@@ -31,11 +32,15 @@ pub struct IndexFile {
 }
 
 impl Model for IndexFile {
+    ghost use Rattle.std.specs.Prelude.{◌≡◌, true};
+    ghost use Rattle.sasi_indexwrite.specs.Format.{is_spill};
     ghost use Rattle.sasi_indexread.specs.Opened.{OpenIndexFile};
 
     ghost Value = { OpenIndexFile };
 
     ghost view = { λ a. record { file = a.file; kind = a.kind; blocks = a.blocks; spill = a.spill } };
+
+    ghost invariant = { λ a. is_spill a.blocks.first a.spill ≡ true };
 }
 
 impl IndexFile {
@@ -108,7 +113,8 @@ impl IndexFile {
 
     // What refers to the spill tree.
     pub(crate) fn spill(&self) -> TreeRef
-        ensures { result ≡ self.now.spill }
+        ensures is { result ≡ self.now.spill }
+        ensures possible { is_spill self.now.blocks.first self.now.spill ≡ true }
     {
         self.spill
     }

@@ -13,7 +13,7 @@ use sasi_formats::{FieldStart, FormatFault, damage_in, expect, read_front, read_
 use sasi_host::{Damage, FileName, FormatRule};
 use sasi_indexwrite::{Footer, magic};
 use sasi_termblocks::BlockRef;
-use sasi_tokentree::is_node_offset;
+use sasi_tokentree::is_tree_ref;
 use sasi_types::{ColumnType, Mode, TreeRef};
 
 // The bytes of a block.
@@ -236,7 +236,7 @@ fn is_spill(first: u64, spill: TreeRef) -> bool
     if spill.pairs == 0 {
         return spill.root == 0;
     }
-    is_node_offset(TREES, first, spill.root)
+    is_tree_ref(TREES, first, spill)
 }
 
 // Reads the reference of a tree.

@@ -13,7 +13,7 @@ use Rattle.sasi_formats.specs.Formats.{Format, Then, Decoded, encoded}
 use Rattle.sasi_formats.specs.Codings.{one_of}
 use Rattle.sasi_formats.specs.Fields.{◌&◌, checked, mapped, number, fixed, prefixed}
 use Rattle.sasi_formats.specs.Headers.{file_front}
-use Rattle.sasi_tokentree.specs.Damages.{is_node_offset}
+use Rattle.sasi_tokentree.specs.Damages.{is_tree_ref}
 use Rattle.sasi_tokentree.specs.Format.{tree_bytes, tree_ref}
 use Rattle.sasi_termblocks.specs.declared.block_ref.BlockRef.{BlockRef}
 use Rattle.sasi_termblocks.specs.declared.term_entry.TermEntry.{TermEntry}
@@ -66,9 +66,9 @@ has_levels at first blocks levels =
 abbrev pub is_top : ℕ → ℕ → ℕ → Bool
 is_top at levels top = if levels == 0 then top == 0 else top == at - 4096
 
--- the root of the spill tree stands between the header and the term blocks; that of no pairs is 0
+-- the spill tree can stand between the header and the term blocks; the root of no pairs is 0
 abbrev pub is_spill : ℕ → TreeRef → Bool
-is_spill first spill = if spill.pairs == 0 then spill.root == 0 else is_node_offset 16 first spill.root
+is_spill first spill = if spill.pairs == 0 then spill.root == 0 else is_tree_ref 16 first spill
 
 -- each term block has a term at least
 abbrev pub is_term_count : ℕ → ℕ → Bool

@@ -8,7 +8,7 @@ use Rattle.sasi_host.specs.Disk.{overlay}
 use Rattle.sasi_termblocks.specs.declared.block_ref.BlockRef.{BlockRef}
 use Rattle.sasi_termblocks.specs.declared.term_entry.TermEntry.{TermEntry}
 use Rattle.sasi_termblocks.specs.Blocks.{IsRefOf, blocks, items_of, levels_bytes}
-use Rattle.sasi_termblocks.specs.Scans.{HasBlocks, HasPassed, HaveBytes, IsRising, start_of, terms_of}
+use Rattle.sasi_termblocks.specs.Scans.{HasBlocks, HasPassed, HaveBytes, HaveTrees, IsRising, start_of, terms_of}
 use Rattle.sasi_termblocks.specs.Scans.IsAt.{at_entry, at_end}
 use Rattle.sasi_termblocks.proofs.CutLaws.{all_blocks}
 use Rattle.sasi_termblocks.proofs.Groups.{are_small, is_block}
@@ -27,9 +27,9 @@ begins bytes r entries has =
     (leb_tells (length groups) 0)
 
 -- bytes over which the blocks of rising entries were written have them
-pub written : (was : Bytes) (at page : ℕ) (r : BlockRef) (entries : List TermEntry) → at ≤ length was → at ≡ 4096 * page → IsRefOf at entries r → IsRising (terms_of entries) → HaveBytes entries
+pub written : (was : Bytes) (at page : ℕ) (r : BlockRef) (entries : List TermEntry) → at ≤ length was → at ≡ 4096 * page → IsRefOf at entries r → IsRising (terms_of entries) → HaveBytes entries → HaveTrees at entries
     → length (overlay was at (levels_bytes r.levels at (items_of entries))) ≤ 2 ^ 62 → HasBlocks (overlay was at (levels_bytes r.levels at (items_of entries))) r entries
-written was at page r entries le aligned refers rising fit short =
+written was at page r entries le aligned refers rising fit trees short =
     let put = levels_bytes r.levels at (items_of entries) in
     let stands : HasAt (overlay was at put) at put = record { front = take at was; rest = drop (at + length put) was; is = refl; offset_is = length-take-le at was le } in
     record {
@@ -39,5 +39,6 @@ written was at page r entries le aligned refers rising fit short =
       referred = subst (λ (n : ℕ). IsRefOf n entries r) (sym refers.first) refers;
       rising = rising;
       fit = fit;
+      trees = subst (λ (n : ℕ). HaveTrees n entries) (sym refers.first) trees;
       short = short;
     }

@@ -2,7 +2,9 @@
 use Rattle.std.proofs.Common.{◌≡◌, ◌≢◌, ℕ, Bool, ◌+◌, ◌*◌, ◌≤◌, ◌-◌, length, take, drop, min, false, sym, ap, ◌∙◌, subst, arith, length-drop, inl, inr}
 use Rattle.std.proofs.lemmas.List.{drop_min, take_rest}
 use Rattle.sasi_fields.specs.Reading.{Reading}
-use Rattle.std.specs.Prelude.{◌⊎◌}
+use Rattle.std.specs.Prelude.{◌⊎◌, ◌<◌, Some}
+use Rattle.sasi_types.specs.declared.tree.TreeRef.{TreeRef}
+use Rattle.sasi_tokentree.specs.Damages.{is_tree_ref}
 use Rattle.sasi_host.specs.Names.{Bytes}
 use Rattle.sasi_host.specs.Damages.{seen_bytes}
 use Rattle.sasi_host.specs.declared.damage.FormatRule.{FormatRule}
@@ -14,16 +16,18 @@ use Rattle.sasi_formats.specs.Failures.{Fails}
 use Rattle.sasi_formats.specs.Gives.{FailsWith}
 use Rattle.sasi_formats.specs.declared.fault.FormatFault.{FormatFault}
 use Rattle.sasi_formats.specs.declared.fault.FormatFault.TheVariants as fault
-use Rattle.sasi_formats.proofs.Agreement.{fails_exactly}
+use Rattle.sasi_formats.proofs.Agreement.{fails_exactly, reads_exactly}
+use Rattle.sasi_formats.proofs.Encoding.{fits}
 use Rattle.sasi_formats.proofs.Offsets.{fails_within}
 use Rattle.sasi_termblocks.specs.declared.fault.BlockFault.{BlockFault}
 use Rattle.sasi_termblocks.specs.declared.fault.BlockFault.TheVariants.{OutOfMemory, Broken}
 use Rattle.sasi_termblocks.specs.Entries.{is_below, term, term_entry}
 use Rattle.sasi_termblocks.specs.declared.term_entry.TermEntry.{TermEntry}
-use Rattle.sasi_termblocks.specs.Windows.{BreaksEntry, BreaksNext, HasEntry, HasSize, IsFault, bytes_in, offset_in}
+use Rattle.sasi_termblocks.specs.Windows.{BreaksEntry, BreaksNext, BreaksTree, HasEntry, HasSize, IsFault, bytes_in, count_in, offset_in}
 use Rattle.sasi_termblocks.specs.Windows.BreaksEntry.{offset, field}
 use Rattle.sasi_termblocks.specs.BlockFaults.{BreaksUpTo, IsBrokenAt, IsMisplaced, IsMoved, IsNear, IsPlaced, PointsTo}
 use Rattle.sasi_termblocks.specs.Descents.{pointer_to}
+use Rattle.sasi_termblocks.proofs.EntryLaws.{entry_term as short_entry}
 
 -- the offset of a fault that a format tells lies within the block
 pub entry_placed : {A : Type 0} (format : Format A) (block : Bytes) (index : ℕ) (f : FormatFault) → length block ≡ 4096 → FailsWith (read format (start (bytes_in block index))) f → IsPlaced f
@@ -184,3 +188,23 @@ pub next_fault : (block : Bytes) (index size : ℕ) (now : BlockFault) → HasSi
     → IsBrokenAt rule.Number (2 + 2 * (index + 1)) (take 2 (drop (2 + 2 * (index + 1)) block)) now → IsNear now → IsFault (BreaksNext block index) now
 next_fault block index size OutOfMemory has wrong broken near = tt
 next_fault block index size (Broken b) has wrong broken near = (record { size = size; has = has; wrong = wrong; rule_is = broken.0; at_is = broken.1; seen_is = broken.2 }, near)
+
+-- ---- an entry that refers to no tree
+
+-- the term of an entry is short
+pub term_of_entry : (block : Bytes) (index : ℕ) (entry : TermEntry) → HasEntry term_entry block index entry → length entry.term ≤ 1024
+term_of_entry block index entry has =
+    let next = (reads_exactly term_entry (start (bytes_in block index)) has.0 entry).0 has.1 in
+    short_entry entry (fits term_entry entry next.field next.is)
+
+pub root_at : (block : Bytes) (at_read at_is cut : ℕ) (now : BlockFault) → length block ≡ 4096 → at_read ≡ at_is → cut ≡ min at_read 4096 → IsBrokenAt rule.Place at_read (take 8 (take (length block - cut) (drop cut block))) now
+    → IsBrokenAt rule.Place at_is (take 8 (drop at_is block)) now
+root_at block at_read at_is cut OutOfMemory long same cut_is broken = broken
+root_at block at_read at_is cut (Broken b) long same cut_is broken =
+    (broken.0, broken.1 ∙ same, broken.2 ∙ ap (λ (l : Bytes). take 8 l) (window_cut block at_read cut long cut_is) ∙ ap (λ (n : ℕ). take 8 (drop n block)) same)
+
+pub tree_fault : (first index : ℕ) (block : Bytes) (entry : TermEntry) (tree : TreeRef) (now : BlockFault) → index < count_in block → HasEntry term_entry block index entry → entry.list ≡ Some tree → is_tree_ref 16 first tree ≡ false
+    → IsBrokenAt rule.Place (offset_in block index + (3 + length entry.term)) (take 8 (drop (offset_in block index + (3 + length entry.term)) block)) now → IsNear now → IsFault (BreaksTree first index block) now
+tree_fault first index block entry tree OutOfMemory within has list wrong broken near = tt
+tree_fault first index block entry tree (Broken b) within has list wrong broken near =
+    (record { entry = entry; tree = tree; within = within; has = has; list = list; wrong = wrong; rule_is = broken.0; at_is = broken.1; seen_is = broken.2 }, near)

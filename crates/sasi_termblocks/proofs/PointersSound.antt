@@ -21,10 +21,10 @@ use Rattle.sasi_termblocks.specs.declared.block_ref.BlockRef.{BlockRef}
 use Rattle.sasi_termblocks.specs.declared.term_entry.TermEntry.{TermEntry}
 use Rattle.sasi_termblocks.specs.Entries.{pointer, term}
 use Rattle.sasi_termblocks.specs.Blocks.{Item, EndsAfter, above, block, blocks, items_of, first_term, first_terms, level_bytes, next_at, pointer_item}
-use Rattle.sasi_termblocks.specs.Windows.{HasEntry, count_in}
+use Rattle.sasi_termblocks.specs.Windows.{BreaksTree, HasEntry, count_in}
 use Rattle.sasi_termblocks.specs.Damages.{BreaksPointers, BreaksTerms, Leads, ShowsBlocks}
 use Rattle.sasi_termblocks.specs.Damages.ShowsBlock.{ends, breaks}
-use Rattle.sasi_termblocks.specs.Damages.ShowsBlocks.{ends_early, in_terms, in_pointers, behind_terms, led_too_far, led_too_near}
+use Rattle.sasi_termblocks.specs.Damages.ShowsBlocks.{misled, ends_early, in_terms, in_pointers, behind_terms, led_too_far, led_too_near}
 use Rattle.sasi_termblocks.specs.BlockFaults.{BreaksFirstPointer}
 use Rattle.sasi_termblocks.specs.Damages.Leads.{top, down}
 use Rattle.sasi_termblocks.specs.Descents.{high_page, is_page_offset, level_at, level_items, low_page, page_of_top, pointer_to}
@@ -38,7 +38,7 @@ use Rattle.sasi_termblocks.proofs.Levels.{at_up, items_up, level_are, level_bloc
 use Rattle.sasi_termblocks.proofs.Found.{value_sound}
 use Rattle.sasi_termblocks.proofs.Children.{all_items, page_block, pointer_is}
 use Rattle.sasi_termblocks.proofs.Descent.{high_is, level_aligned, low_is, top_for}
-use Rattle.sasi_termblocks.proofs.Sound.{block_ends, front_sound, terms_sound}
+use Rattle.sasi_termblocks.proofs.Sound.{block_ends, front_sound, terms_sound, trees_sound}
 
 -- where a block of a level is
 pub record IsOn (r : BlockRef) (entries : List TermEntry) (level page : ℕ) : Type 0 where
@@ -220,6 +220,14 @@ blocks_sound file bytes r entries damage has (in_terms page low high (breaks win
     let lt : group < length (blocks (items_of entries)) = omega (arith, low, high, has.referred.blocks_are) in
     let window_is = page_block bytes window r entries 0 group page has (omega arith) lt (omega (arith, low, has.aligned)) stands long in
     terms_sound bytes r entries has group damage.rule at (seen_bytes damage.seen) lt (subst (λ (w : Bytes). BreaksTerms w damage.rule at (seen_bytes damage.seen)) window_is broken)
+blocks_sound file bytes r entries damage has (misled page index low high (ends early)) =
+    let group = page - r.first / 4096 in
+    omega (arith, early.short, block_ends bytes r entries has 0 group page (omega arith) (omega (arith, low, high, has.referred.blocks_are)) (omega (arith, low, has.aligned)))
+blocks_sound file bytes r entries damage has (misled page index low high (breaks window at named stands long at_is broken)) =
+    let group = page - r.first / 4096 in
+    let lt : group < length (blocks (items_of entries)) = omega (arith, low, high, has.referred.blocks_are) in
+    let window_is = page_block bytes window r entries 0 group page has (omega arith) lt (omega (arith, low, has.aligned)) stands long in
+    trees_sound bytes r entries has group index damage.rule at (seen_bytes damage.seen) lt (subst (λ (w : Bytes). BreaksTree r.first index w damage.rule at (seen_bytes damage.seen)) window_is broken)
 blocks_sound file bytes r entries damage has (in_pointers zero page some leads shown) = absurd (omega (arith, some))
 blocks_sound file bytes r entries damage has (in_pointers (suc level) page some leads (ends early)) =
     let on = on_level bytes r entries (suc level) page has leads in

@@ -24,7 +24,7 @@ use Rattle.sasi_termblocks.specs.Windows.{IsFault, count_in}
 use Rattle.sasi_termblocks.specs.BlockFaults.{BreaksEnd, BreaksFirstPointer, BreaksLeast, BreaksSome, BreaksUpTo, IsMisplaced, IsNear}
 use Rattle.sasi_termblocks.specs.Damages.{BreaksGiven, BreaksPointers, BreaksSplit, BreaksTerms, IsLifted, Leads, LeadsFor, LeadsTo, ShowsBlock, ShowsBlocks, ShowsGiven}
 use Rattle.sasi_termblocks.specs.Damages.ShowsBlock.{ends, breaks}
-use Rattle.sasi_termblocks.specs.Damages.ShowsBlocks.{in_terms, in_pointers, ends_early, behind_terms, led_too_far, led_too_near}
+use Rattle.sasi_termblocks.specs.Damages.ShowsBlocks.{in_terms, in_pointers, misled, ends_early, behind_terms, led_too_far, led_too_near}
 use Rattle.sasi_termblocks.specs.declared.term_entry.TermEntry.{TermEntry}
 use Rattle.sasi_termblocks.specs.Descents.{high_page, low_page}
 use Rattle.sasi_termblocks.specs.Scans.{EndsBelow, EndsPast, GivesEntry, IsPast, ReadsHere}
@@ -50,9 +50,9 @@ pub order_broken : (block : Bytes) (index : ℕ) (r : FormatRule) (at : ℕ) (se
 order_broken block index r at seen lt (inl some) = inr (inl (some.0, omega (arith, some.1, lt), entry_breaks block some.0 r at seen some.2))
 order_broken block index r at seen lt (inr two) = inr (inr (inl (two.0, omega (arith, two.1, lt), two.2)))
 
-pub least_broken : (index : ℕ) (least block : Bytes) (r : FormatRule) (at : ℕ) (seen : Bytes) → index < count_in block → BreaksLeast index least block r at seen → BreaksGiven index least block r at seen
-least_broken index least block r at seen lt (inl broken) = inl (inr (inl (index, lt, entry_breaks block index r at seen broken)))
-least_broken index least block r at seen lt (inr misplaced) = inr misplaced
+pub least_broken : (first index : ℕ) (least block : Bytes) (r : FormatRule) (at : ℕ) (seen : Bytes) → index < count_in block → BreaksLeast index least block r at seen → BreaksGiven first index least block r at seen
+least_broken first index least block r at seen lt (inl broken) = inl (inr (inl (index, lt, entry_breaks block index r at seen broken)))
+least_broken first index least block r at seen lt (inr misplaced) = inr (inl misplaced)
 
 pub end_broken : (block : Bytes) (index : ℕ) (r : FormatRule) (at : ℕ) (seen : Bytes) → index < count_in block → BreaksEnd block index r at seen → BreaksTerms block r at seen
 end_broken block index r at seen lt (inl entry) = inr (inl (index, lt, entry))
@@ -126,16 +126,17 @@ split_shown v file r sought page f low high leads shown =
     shown_as (ShowsBlock (BreaksSplit (r.first / 4096) page sought) file page) (ShowsBlocks file r) v file f (λ bytes damage is block. split_shows file r sought page bytes damage low high (leads bytes is) block) shown
 
 -- a block of which an entry is given
-given_shows : (file : FileName) (r : BlockRef) (page index : ℕ) (least bytes : Bytes) (damage : Damage) → r.first / 4096 ≤ page → page < r.first / 4096 + r.blocks → ShowsBlock (BreaksGiven index least) file page bytes damage
+given_shows : (file : FileName) (r : BlockRef) (page index : ℕ) (least bytes : Bytes) (damage : Damage) → r.first / 4096 ≤ page → page < r.first / 4096 + r.blocks → ShowsBlock (BreaksGiven r.first index least) file page bytes damage
     → ShowsGiven file r page index least bytes damage
 given_shows file r page index least bytes damage low high (ends early) = inl (in_terms page low high (ends early))
 given_shows file r page index least bytes damage low high (breaks window at named stands long at_is (inl broken)) = inl (in_terms page low high (breaks window at named stands long at_is broken))
-given_shows file r page index least bytes damage low high (breaks window at named stands long at_is (inr early)) = inr (high, breaks window at named stands long at_is early)
+given_shows file r page index least bytes damage low high (breaks window at named stands long at_is (inr (inl early))) = inr (high, breaks window at named stands long at_is early)
+given_shows file r page index least bytes damage low high (breaks window at named stands long at_is (inr (inr wrong))) = inl (misled page index low high (breaks window at named stands long at_is wrong))
 
-pub given_shown : (v : View) (file : FileName) (r : BlockRef) (page index : ℕ) (least : Bytes) (f : ReadFault) → r.first / 4096 ≤ page → page < r.first / 4096 + r.blocks → DamageShown v file (ShowsBlock (BreaksGiven index least) file page) f
+pub given_shown : (v : View) (file : FileName) (r : BlockRef) (page index : ℕ) (least : Bytes) (f : ReadFault) → r.first / 4096 ≤ page → page < r.first / 4096 + r.blocks → DamageShown v file (ShowsBlock (BreaksGiven r.first index least) file page) f
     → DamageShown v file (ShowsGiven file r page index least) f
 given_shown v file r page index least f low high shown =
-    shown_as (ShowsBlock (BreaksGiven index least) file page) (ShowsGiven file r page index least) v file f (λ bytes damage is block. given_shows file r page index least bytes damage low high block) shown
+    shown_as (ShowsBlock (BreaksGiven r.first index least) file page) (ShowsGiven file r page index least) v file f (λ bytes damage is block. given_shows file r page index least bytes damage low high block) shown
 
 pub given_all : (v : View) (file : FileName) (r : BlockRef) (page index : ℕ) (least : Bytes) (f : ReadFault) → DamageShown v file (ShowsBlocks file r) f → DamageShown v file (ShowsGiven file r page index least) f
 given_all v file r page index least f shown = shown_as (ShowsBlocks file r) (ShowsGiven file r page index least) v file f (λ bytes damage is all. inl all) shown

@@ -1,5 +1,8 @@
 -- Blocks in the format break no rule.
-use Rattle.std.proofs.Common.{◌≡◌, ℕ, ◌+◌, ◌*◌, ◌<◌, ◌≤◌, true, false, List, [], ◌∷◌, length, refl, sym, ap, ◌∙◌, arith, inl, inr, ⊎_elim}
+use Rattle.std.proofs.Common.{◌≡◌, ℕ, ◌+◌, ◌*◌, ◌<◌, ◌≤◌, true, false, List, [], ◌∷◌, length, Option, Some, refl, sym, ap, ◌∙◌, subst, arith, inl, inr, ⊎_elim}
+use Rattle.sasi_types.specs.declared.tree.TreeRef.{TreeRef}
+use Rattle.sasi_formats.specs.Formats.{Fits, encoded}
+use Rattle.sasi_tokentree.specs.Damages.{is_tree_ref}
 use Rattle.std.proofs.lemmas.List.{length-map}
 use Rattle.std.specs.Prelude.{get_or}
 use Rattle.sasi_host.specs.declared.damage.FormatRule.{FormatRule}
@@ -9,16 +12,16 @@ use Rattle.sasi_termblocks.specs.declared.block_ref.BlockRef.{BlockRef}
 use Rattle.sasi_termblocks.specs.declared.term_entry.TermEntry.{TermEntry}
 use Rattle.sasi_termblocks.specs.Entries.{is_below, term, term_entry}
 use Rattle.sasi_termblocks.specs.Blocks.{Item, block, blocks, items_of}
-use Rattle.sasi_termblocks.specs.Windows.{BreaksCount, BreaksFront, BreaksOrder, number_at}
+use Rattle.sasi_termblocks.specs.Windows.{BreaksCount, BreaksFront, BreaksOrder, BreaksTree, RefersWithin, number_at}
 use Rattle.sasi_termblocks.specs.Windows.BreaksFront.{in_count, in_start}
 use Rattle.sasi_termblocks.specs.Damages.{BreaksTerms}
 use Rattle.sasi_termblocks.specs.Descents.{level_at, level_items}
-use Rattle.sasi_termblocks.specs.Scans.{HasBlocks, HaveBytes, start_of}
+use Rattle.sasi_termblocks.specs.Scans.{HasBlocks, HaveBytes, HaveTrees, start_of}
 use Rattle.sasi_termblocks.proofs.CutLaws.{all_blocks, block_length}
 use Rattle.sasi_termblocks.proofs.BlockLaws.{count_is, offset_is, one_entry}
 use Rattle.sasi_termblocks.proofs.Groups.{Every, IsBlock, IsItem, are_small, block_every, every_at, is_block, item_at, item_within, joined, joined_blocks, term_at, terms_in}
 use Rattle.sasi_termblocks.proofs.Levels.{level_are, level_block}
-use Rattle.sasi_termblocks.proofs.Found.{IsValue, next_sound, term_begins, value_sound}
+use Rattle.sasi_termblocks.proofs.Found.{IsValue, next_sound, term_begins, value_begins, value_sound}
 use Rattle.sasi_termblocks.proofs.Children.{all_items, all_rise}
 
 -- a block in the format has a right count
@@ -38,6 +41,23 @@ front_sound group r at seen one (in_start broken) =
 values : (entries : List TermEntry) → HaveBytes entries → Every (λ (i : Item). IsValue term_entry i) (items_of entries)
 values [] fit = tt
 values (e ∷ others) fit = (record { value = e; is = refl; fits = fit.0 }, values others fit.1)
+
+-- an entry whose tree can stand in front of the first term block
+record IsEntry (first : ℕ) (item : Item) : Type 0 where
+  pub value : TermEntry
+  pub is : item.bytes ≡ encoded term_entry value
+  pub fits : Fits term_entry value
+  pub tree : RefersWithin first value.list
+
+are_entries : (first : ℕ) (entries : List TermEntry) → HaveBytes entries → HaveTrees first entries → Every (λ (i : Item). IsEntry first i) (items_of entries)
+are_entries first [] fit trees = tt
+are_entries first (e ∷ others) fit trees = (record { value = e; is = refl; fits = fit.0; tree = trees.0 }, are_entries first others fit.1 trees.1)
+
+refers : (first : ℕ) (tree : TreeRef) (list : Option TreeRef) → list ≡ Some tree → RefersWithin first list → is_tree_ref 16 first tree ≡ false → ⊥
+refers first tree list is within wrong = absurd (let no = sym (subst (λ (o : Option TreeRef). RefersWithin first o) is within) ∙ wrong in differ no)
+  where
+    differ : true ≡ false → ⊥
+    differ e = cc
 
 module _ (bytes : Bytes) (r : BlockRef) (entries : List TermEntry) (has : HasBlocks bytes r entries) where
   -- the block of a level reaches to its end
@@ -104,3 +124,15 @@ module _ (bytes : Bytes) (r : BlockRef) (entries : List TermEntry) (has : HasBlo
       let within : next.0 + 1 < length here = omega (arith, next.1, count_is here one.fits) in
       let value = every_at (λ (i : Item). IsValue term_entry i) here next.0 d (block_every (λ (i : Item). IsValue term_entry i) items group (values entries has.fit)) (omega (arith, within)) in
       next_sound here next.0 d value.value rule_ at seen one.fits within value.is value.fits next.2
+
+  -- the trees of its entries can stand there
+  pub trees_sound : (group index : ℕ) (rule_ : FormatRule) (at : ℕ) (seen : Bytes) → group < length (blocks (items_of entries)) → BreaksTree r.first index (block (get_or (blocks (items_of entries)) group [])) rule_ at seen → ⊥
+  trees_sound group index rule_ at seen lt broken =
+      let items = items_of entries in
+      let here = get_or (blocks items) group [] in
+      let d : Item = record { term = []; bytes = [] } in
+      let one = is_block (blocks items) group (all_blocks items (are_small items (all_items bytes r entries has))) lt in
+      let within : index < length here = omega (arith, broken.within, count_is here one.fits) in
+      let value = every_at (λ (i : Item). IsEntry r.first i) here index d (block_every (λ (i : Item). IsEntry r.first i) items group (are_entries r.first entries has.fit has.trees)) within in
+      let same : value.value ≡ broken.entry = one_entry term_entry (block here) index value.value broken.entry (value_begins term_entry here index d value.value one.fits within value.is value.fits) broken.has in
+      refers r.first broken.tree value.value.list (ap (λ (e : TermEntry). e.list) same ∙ broken.list) value.tree broken.wrong

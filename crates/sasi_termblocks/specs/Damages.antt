@@ -11,7 +11,7 @@ use Rattle.sasi_termblocks.specs.declared.block_ref.BlockRef.{BlockRef}
 use Rattle.sasi_termblocks.specs.declared.fault.BlockFault.{BlockFault}
 use Rattle.sasi_termblocks.specs.declared.fault.BlockFault.TheVariants.{OutOfMemory, Broken}
 use Rattle.sasi_termblocks.specs.Entries.{pointer, term_entry}
-use Rattle.sasi_termblocks.specs.Windows.{BreaksEntry, BreaksFront, BreaksNext, BreaksOrder, HasEntry, IsBound, count_in}
+use Rattle.sasi_termblocks.specs.Windows.{BreaksEntry, BreaksFront, BreaksNext, BreaksOrder, BreaksTree, HasEntry, IsBound, count_in}
 use Rattle.sasi_termblocks.specs.Descents.{high_page, low_page, page_of_top, pointer_to}
 use Rattle.sasi_termblocks.specs.BlockFaults.{BreaksFirstPointer, IsMisplaced, PointsTo}
 
@@ -43,9 +43,9 @@ BreaksPointers low high block broken at seen =
 abbrev pub BreaksSplit : ℕ → ℕ → Bytes → Bytes → FormatRule → ℕ → Bytes → Type 0
 BreaksSplit first page sought block broken at seen = BreaksTerms block broken at seen ⊎ ((first < page) × IsMisplaced false 0 sought block broken at seen)
 
--- and what breaks one of which an entry is given that isn't below this term
-abbrev pub BreaksGiven : ℕ → Bytes → Bytes → FormatRule → ℕ → Bytes → Type 0
-BreaksGiven index least block broken at seen = BreaksTerms block broken at seen ⊎ IsMisplaced true index least block broken at seen
+-- and what breaks one of which an entry is given that isn't below this term, and whose tree stands in front of the first term block
+abbrev pub BreaksGiven : ℕ → ℕ → Bytes → Bytes → FormatRule → ℕ → Bytes → Type 0
+BreaksGiven first index least block broken at seen = BreaksTerms block broken at seen ⊎ IsMisplaced true index least block broken at seen ⊎ BreaksTree first index block broken at seen
 
 -- the damage is that of this file, in which a block on the page breaks a rule so, or which ends within it
 pub data ShowsBlock (Breaks : Bytes → FormatRule → ℕ → Bytes → Type 0) (file : FileName) (page : ℕ) (bytes : Bytes) (damage : Damage) : Type 0 where
@@ -83,6 +83,8 @@ pub data ShowsBlocks (file : FileName) (ref : BlockRef) (bytes : Bytes) (damage 
   ends_early : ShowsEnd (ref.first + 4096 * ref.blocks) file bytes damage → ShowsBlocks file ref bytes damage
   -- a term block is damaged
   in_terms : (page : ℕ) → ref.first / 4096 ≤ page → page < ref.first / 4096 + ref.blocks → ShowsBlock BreaksTerms file page bytes damage → ShowsBlocks file ref bytes damage
+  -- or an entry refers to a tree that can't stand in front of the first one
+  misled : (page index : ℕ) → ref.first / 4096 ≤ page → page < ref.first / 4096 + ref.blocks → ShowsBlock (BreaksTree ref.first index) file page bytes damage → ShowsBlocks file ref bytes damage
   -- or a pointer block, to which the pointers above it lead
   in_pointers : (level page : ℕ) → 0 < level → Leads bytes ref level page → ShowsBlock (BreaksPointers (low_page ref level) (high_page ref level page)) file page bytes damage → ShowsBlocks file ref bytes damage
   -- or the pointer blocks don't begin behind the term blocks, with a pointer to the first of these

@@ -11,7 +11,7 @@ use Rattle.sasi_formats.specs.Formats.{Fits}
 use Rattle.sasi_termblocks.specs.declared.block_ref.BlockRef.{BlockRef}
 use Rattle.sasi_termblocks.specs.declared.term_entry.TermEntry.{TermEntry}
 use Rattle.sasi_termblocks.specs.Entries.{is_below, term_entry}
-use Rattle.sasi_termblocks.specs.Windows.{EndsAtNext, HasEntry, StartsBehind, count_in}
+use Rattle.sasi_termblocks.specs.Windows.{EndsAtNext, HasEntry, RefersWithin, StartsBehind, count_in}
 use Rattle.sasi_termblocks.specs.BlockFaults.{IsAboveLast}
 use Rattle.sasi_termblocks.specs.Damages.{EndsTerms, LeadsTo}
 use Rattle.sasi_termblocks.specs.Blocks.{Item, IsRefOf, blocks, items_of, levels_bytes}
@@ -35,6 +35,11 @@ abbrev pub HaveBytes : List TermEntry → Type 0
 HaveBytes [] = Unit {0}
 HaveBytes (entry ∷ others) = Fits term_entry entry × HaveBytes others
 
+-- each entry's tree, if it has one, can stand in front of the first term block
+abbrev pub HaveTrees : ℕ → List TermEntry → Type 0
+HaveTrees first [] = Unit {0}
+HaveTrees first (entry ∷ others) = RefersWithin first entry.list × HaveTrees first others
+
 -- ---- blocks in a file
 
 -- the file has the blocks of these entries, which rise, with this reference; they begin on a page, and no file is longer than 2^62 bytes
@@ -45,6 +50,7 @@ pub record HasBlocks (bytes : Bytes) (ref : BlockRef) (entries : List TermEntry)
   pub referred : IsRefOf ref.first entries ref
   pub rising : IsRising (terms_of entries)
   pub fit : HaveBytes entries
+  pub trees : HaveTrees ref.first entries
   pub short : length bytes ≤ 2 ^ 62
 
 -- ---- a scan
@@ -127,6 +133,11 @@ EndsBelow v file ref sought page index (Some entry) = Unit {0}
 abbrev pub IsNotBelow : Bytes → Option TermEntry → Type 0
 IsNotBelow least None = Unit {0}
 IsNotBelow least (Some entry) = is_below entry.term least ≡ false
+
+-- the tree of the entry, if any, can stand in front of the first term block, which is at this offset
+abbrev pub GivesTree : ℕ → Option TermEntry → Type 0
+GivesTree first None = Unit {0}
+GivesTree first (Some entry) = RefersWithin first entry.list
 
 -- corruption is reported only where the file doesn't have the blocks
 abbrev pub NoFalseDamage : View → FileName → BlockRef → ReadFault → Type 0

@@ -1,6 +1,7 @@
 -- A block as it is read: bytes that may be those of a block.
-use Rattle.std.specs.Prelude.{◌≡◌, ◌≢◌, ℕ, ◌+◌, ◌-◌, ◌*◌, ◌<◌, ◌≤◌, ◌⊎◌, true, false, length, take, drop}
+use Rattle.std.specs.Prelude.{◌≡◌, ◌≢◌, ℕ, ◌+◌, ◌-◌, ◌*◌, ◌<◌, ◌≤◌, ◌⊎◌, true, false, length, take, drop, Option, Some, None}
 use Rattle.std.specs.Int.{from_be_bytes, w16}
+use Rattle.sasi_types.specs.declared.tree.TreeRef.{TreeRef}
 use Rattle.sasi_host.specs.Names.{Bytes}
 use Rattle.sasi_host.specs.Damages.{seen_bytes}
 use Rattle.sasi_host.specs.declared.damage.FormatRule.{FormatRule}
@@ -9,6 +10,7 @@ use Rattle.sasi_fields.specs.Reading.{Reading}
 use Rattle.sasi_formats.specs.Formats.{Format}
 use Rattle.sasi_formats.specs.Reader.{Got, Short, Long, Broken, read, start}
 use Rattle.sasi_formats.specs.Failures.{Fails}
+use Rattle.sasi_tokentree.specs.Damages.{is_tree_ref}
 use Rattle.sasi_termblocks.specs.declared.fault.BlockFault.{BlockFault}
 use Rattle.sasi_termblocks.specs.declared.fault.BlockFault.TheVariants.{OutOfMemory}
 use Rattle.sasi_termblocks.specs.declared.fault.BlockFault.TheVariants as fault
@@ -45,6 +47,11 @@ HasSize block index size = (entry : TermEntry) × (behind : Reading) × (read te
 -- the next entry stands where this one ends
 abbrev pub EndsAtNext : Bytes → ℕ → Type 0
 EndsAtNext block index = (size : ℕ) × HasSize block index size × (offset_in block (index + 1) - offset_in block index ≡ size)
+
+-- the tree, if there is one, can stand between the file's header, of 16 bytes, and the first term block, which is at this offset
+abbrev pub RefersWithin : ℕ → Option TreeRef → Type 0
+RefersWithin first None = Unit {0}
+RefersWithin first (Some tree) = is_tree_ref 16 first tree ≡ true
 
 -- ---- what breaks a block
 
@@ -94,6 +101,18 @@ pub record BreaksNext (block : Bytes) (index : ℕ) (broken : FormatRule) (at : 
   pub rule_is : broken ≡ rule.Number
   pub at_is : at ≡ 2 + 2 * (index + 1)
   pub seen_is : seen ≡ take 2 (drop (2 + 2 * (index + 1)) block)
+
+-- an entry refers to a tree that can't stand there; the offset of its root is behind the term's length, the term and the flags
+pub record BreaksTree (first : ℕ) (index : ℕ) (block : Bytes) (broken : FormatRule) (at : ℕ) (seen : Bytes) : Type 0 where
+  pub entry : TermEntry
+  pub tree : TreeRef
+  pub within : index < count_in block
+  pub has : HasEntry term_entry block index entry
+  pub list : entry.list ≡ Some tree
+  pub wrong : is_tree_ref 16 first tree ≡ false
+  pub rule_is : broken ≡ rule.Place
+  pub at_is : at ≡ offset_in block index + (3 + length entry.term)
+  pub seen_is : seen ≡ take 8 (drop (offset_in block index + (3 + length entry.term)) block)
 
 -- the fault is out of memory, or of this kind; its offset is that of a number of two bytes, and within a block from there
 abbrev pub IsFault : (FormatRule → ℕ → Bytes → Type 0) → BlockFault → Type 0

@@ -3,7 +3,7 @@ ghost use Rattle.std.specs.Prelude.{◌≡◌, ◌+◌, ◌-◌, ◌*◌, ◌^�
 ghost use Rattle.sasi_host.specs.declared.damage.FormatRule.TheVariants as rule;
 ghost use Rattle.sasi_formats.specs.Reader.{start};
 ghost use Rattle.sasi_termblocks.specs.Entries.{is_below, term, term_entry};
-ghost use Rattle.sasi_termblocks.specs.Windows.{BreaksCount, BreaksEntry, BreaksFront, BreaksStart, EndsAtNext, HasEntry, HasSize, IsBound, IsFault, StartsBehind, bytes_in, count_in, number_at, offset_in};
+ghost use Rattle.sasi_termblocks.specs.Windows.{BreaksCount, BreaksEntry, BreaksFront, BreaksStart, BreaksTree, EndsAtNext, HasEntry, HasSize, IsBound, IsFault, RefersWithin, StartsBehind, bytes_in, count_in, number_at, offset_in};
 ghost use Rattle.sasi_termblocks.specs.Descents.{pointer_to};
 ghost use Rattle.sasi_termblocks.specs.BlockFaults.{BreaksEnd, BreaksFirstPointer, BreaksLeast, BreaksSome, BreaksUpTo, IsAboveLast, IsAtLeast, IsBrokenAt, IsCompared, IsMoved, IsNear, IsPlaced, IsSearched, PointsTo};
 
@@ -14,7 +14,11 @@ use crate::term_entry::TermEntry;
 use sasi_fields::FieldReader;
 use sasi_formats::{Broken, FormatFault, broken_at};
 use sasi_host::FormatRule;
+use sasi_tokentree::is_tree_ref;
 use std::alloc::Global;
+
+// The offset of the first tree of a file, behind its header.
+const TREES: u64 = 16;
 
 // The number of two bytes at this offset.
 fn number_at(block: &[u8], at: usize) -> usize
@@ -181,6 +185,41 @@ pub fn check_entry(
     let bytes = next.saturating_sub(here);
     if bytes != size {
         return Err(wrong_offset(block, index + 1));
+    }
+    Ok(())
+}
+
+// The root of the tree is wrong, of the entry with this index and a term of this size.
+fn wrong_root(block: &[u8], index: usize, size: usize) -> BlockFault
+    requires whole { length block.now ≡ 4096 }
+    requires within { 4 + 2 * index ≤ 4096 }
+    requires short { size ≤ 1024 }
+    ensures near { IsNear result }
+    ensures is { IsBrokenAt rule.Place (offset_in block.now index + (3 + size)) (take 8 (drop (offset_in block.now index + (3 + size)) block.now)) result }
+{
+    let at = number_at(block, 2 + 2 * index) + (3 + size);
+    broken(FormatRule::Place, at, &block[at.min(BLOCK_BYTES)..])
+}
+
+// Checks that the tree of the entry with this index, if it has one, can stand in front of the first term block, at this offset.
+pub fn check_tree(
+    block: &[u8],
+    index: usize,
+    entry: &TermEntry,
+    first: u64,
+) -> Result<(), BlockFault>
+    requires whole { length block.now ≡ 4096 }
+    requires within { 4 + 2 * index ≤ 4096 }
+    requires index { index < count_in block.now }
+    requires entry { HasEntry term_entry block.now index entry.now }
+    ensures ok { OnOk result (RefersWithin first entry.now.list) }
+    ensures seen { IfErr result (IsFault (BreaksTree first index block.now)) }
+{
+    let Some(tree) = entry.list else {
+        return Ok(());
+    };
+    if !is_tree_ref(TREES, first, tree) {
+        return Err(wrong_root(block, index, entry.term.bytes().len()));
     }
     Ok(())
 }

@@ -4,7 +4,7 @@ ghost use Rattle.sasi_host.specs.View.{ReadCost};
 ghost use Rattle.sasi_host.specs.Damages.{DamageShown};
 ghost use Rattle.sasi_host.specs.PageReading.{CanReadOn, HasReadOn};
 ghost use Rattle.sasi_termblocks.specs.Damages.{ShowsBlocks};
-ghost use Rattle.sasi_termblocks.specs.Scans.{EndsBelow, EndsPast, IsNotBelow, NoFalseDamage, ReadsFirst, ReadsHere, ReadsNext, ReadsSome};
+ghost use Rattle.sasi_termblocks.specs.Scans.{EndsBelow, EndsPast, GivesTree, IsNotBelow, NoFalseDamage, ReadsFirst, ReadsHere, ReadsNext, ReadsSome};
 
 use crate::block_encode::BLOCK_BYTES;
 use crate::block_ref::BlockRef;
@@ -65,6 +65,8 @@ impl Blocks {
         // In any file it is an entry of a block, and not below the term.
         ensures stands { IfOk result (λ found. ReadsSome (H.view host.old) self.old.buffered.file found) }
         ensures least { IfOk result (IsNotBelow term.now) }
+        // In any file its tree can stand in front of the first term block.
+        ensures tree { IfOk result (GivesTree self.old.blocks.first) }
         // In any file there is none only where the pointers lead behind the last entry of the term blocks.
         ensures ends { IfOk result (λ found. EndsBelow (H.view host.old) self.old.buffered.file self.old.blocks term.now self.new.page self.new.index found) }
         ensures damaged { IfErr result (DamageShown (H.view host.old) self.old.buffered.file (ShowsBlocks self.old.buffered.file self.old.blocks)) }
@@ -91,6 +93,8 @@ impl Blocks {
         ensures ok { IfOk result (λ found. ReadsNext (H.view host.old) self.old.buffered.file self.old.blocks self.old.page self.old.index self.new.page self.new.index found) }
         // In any file it is an entry of a term block whose first entry stands behind the offsets, and above the one before it there.
         ensures stands { IfOk result (λ found. ReadsHere (H.view host.old) self.old.buffered.file self.old.page self.old.index self.new.page self.new.index found) }
+        // In any file its tree can stand in front of the first term block.
+        ensures tree { IfOk result (GivesTree self.old.blocks.first) }
         // In any file it ends exactly behind the term blocks, where the pointer blocks begin, or where its block has no further entry.
         ensures ends { IfOk result (λ found. EndsPast (H.view host.old) self.old.buffered.file self.old.blocks self.old.page self.old.index self.new.page self.new.index found) }
         ensures damaged { IfErr result (DamageShown (H.view host.old) self.old.buffered.file (ShowsBlocks self.old.buffered.file self.old.blocks)) }

@@ -6,9 +6,11 @@ ghost use Rattle.sasi_host.specs.PageReading.{CanReadOn, HasReadOn};
 ghost use Rattle.sasi_termblocks.specs.Windows.{IsFault, count_in};
 ghost use Rattle.sasi_termblocks.specs.BlockFaults.{BreaksFirstPointer, PointsTo};
 ghost use Rattle.sasi_termblocks.specs.Damages.{BreaksGiven, EndsTerms, ShowsBlock, ShowsBlocks, ShowsGiven};
-ghost use Rattle.sasi_termblocks.specs.Scans.{EndsBelow, EndsPast, GivesEntry, IsNotBelow, ReadsFirst, ReadsHere, ReadsNext, ReadsSome};
+ghost use Rattle.sasi_termblocks.specs.Scans.{EndsBelow, EndsPast, GivesEntry, GivesTree, IsNotBelow, ReadsFirst, ReadsHere, ReadsNext, ReadsSome};
 
-use crate::block::{check_entry, check_least, check_order, count_of, entry_at, first_pointer};
+use crate::block::{
+    check_entry, check_least, check_order, check_tree, count_of, entry_at, first_pointer,
+};
 use crate::block_encode::BLOCK_BYTES;
 use crate::block_read::{fault_of, load_block, loaded_block};
 use crate::block_ref::BlockRef;
@@ -85,11 +87,12 @@ fn check_end<H: Host, P: PageReader>(
     Ok(())
 }
 
-// The entry with this index of a block on this page, which isn't below the least term, and the position behind it; none where it
-// has no such entry.
+// The entry with this index of a block on this page, which isn't below the least term and whose tree can stand in front of the
+// first term block, and the position behind it; none where it has no such entry.
 fn entry_in(
     alloc: Global,
     block: &[u8],
+    first: u64,
     position: Position,
     least: &[u8],
 ) -> Result<ScannedEntry, BlockFault>
@@ -97,7 +100,8 @@ fn entry_in(
     requires page { position.page < 2 ^ 50 }
     ensures ok { IfOk result (λ found. GivesEntry block.now position.page position.index found.position.page found.position.index found.entry) }
     ensures least { IfOk result (λ found. IsNotBelow least.now found.entry) }
-    ensures seen { IfErr result (IsFault (BreaksGiven position.index least.now block.now)) }
+    ensures tree { IfOk result (λ found. GivesTree first found.entry) }
+    ensures seen { IfErr result (IsFault (BreaksGiven first position.index least.now block.now)) }
 {
     let count = count_of(block)?;
     if position.index >= count {
@@ -110,6 +114,7 @@ fn entry_in(
     check_least(block, position.index, least)?;
     check_entry(alloc, block, position.index, count)?;
     let entry = entry_at(alloc, block, position.index)?;
+    check_tree(block, position.index, &entry, first)?;
     Ok(ScannedEntry {
         entry: Some(entry),
         position: position_in(position.page, position.index + 1, count),
@@ -131,6 +136,7 @@ pub fn entry_from<H: Host, P: PageReader>(
     ensures ok { IfOk result (λ found. ReadsNext (H.view host.old) buffered.old.file blocks position.page position.index found.position.page found.position.index found.entry) }
     ensures stands { IfOk result (λ found. ReadsHere (H.view host.old) buffered.old.file position.page position.index found.position.page found.position.index found.entry) }
     ensures least { IfOk result (λ found. IsNotBelow least.now found.entry) }
+    ensures tree { IfOk result (λ found. GivesTree blocks.first found.entry) }
     ensures ends { IfOk result (λ found. EndsPast (H.view host.old) buffered.old.file blocks position.page position.index found.position.page found.position.index found.entry) }
     ensures low { IfOk result (λ found. blocks.first / 4096 ≤ found.position.page) }
     ensures damaged { IfErr result (DamageShown (H.view host.old) buffered.old.file (ShowsGiven buffered.old.file blocks position.page position.index least.now)) }
@@ -148,7 +154,7 @@ pub fn entry_from<H: Host, P: PageReader>(
         });
     }
     load_block(host, pages, buffered, position.page)?;
-    match entry_in(alloc, loaded_block(buffered), position, least) {
+    match entry_in(alloc, loaded_block(buffered), blocks.first, position, least) {
         Ok(found) => Ok(found),
         Err(fault) => Err(fault_of(buffered.file(), position.page, fault)),
     }
@@ -167,6 +173,7 @@ pub fn first_from<H: Host, P: PageReader>(
     ensures ok { IfOk result (λ found. ReadsFirst (H.view host.old) buffered.old.file blocks sought.now found.position.page found.position.index found.entry) }
     ensures stands { IfOk result (λ found. ReadsSome (H.view host.old) buffered.old.file found.entry) }
     ensures least { IfOk result (λ found. IsNotBelow sought.now found.entry) }
+    ensures tree { IfOk result (λ found. GivesTree blocks.first found.entry) }
     ensures ends { IfOk result (λ found. EndsBelow (H.view host.old) buffered.old.file blocks sought.now found.position.page found.position.index found.entry) }
     ensures low { IfOk result (λ found. blocks.first / 4096 ≤ found.position.page) }
     ensures damaged { IfErr result (DamageShown (H.view host.old) buffered.old.file (ShowsBlocks buffered.old.file blocks)) }

@@ -1,5 +1,5 @@
 -- A file to which a tree was written has it, and its root stands within the tree.
-use Rattle.std.specs.Prelude.{◌≡◌, ℕ, zero, suc, ◌+◌, ◌<◌, ◌≤◌, nat_le, Bool, true, ◌&&◌, List, ◌++◌, length, take, drop}
+use Rattle.std.specs.Prelude.{◌≡◌, ℕ, zero, suc, ◌+◌, ◌^◌, ◌<◌, ◌≤◌, nat_le, Bool, true, ◌&&◌, List, ◌++◌, length, take, drop}
 use Rattle.std.proofs.Common.{sym, ap, ◌∙◌, subst, arith, rules, ⊎_elim, length-append}
 use Rattle.std.proofs.lemmas.List.{length-take-le}
 use Rattle.std.proofs.lemmas.Bool.Decides.{leb_tells}
@@ -8,8 +8,9 @@ use Rattle.sasi_host.specs.Names.{Bytes}
 use Rattle.sasi_host.specs.Disk.{overlay}
 use Rattle.sasi_tokentree.specs.Format.{above, levels, level_bytes, nodes, size, top, tree_bytes, tree_ref, IsRising, AreFit, HasTree}
 use Rattle.sasi_tokentree.proofs.Sizes.{first_above_length, level_length, more_levels, one_level, top_more, top_one}
-use Rattle.sasi_tokentree.proofs.HeightLaws.{top_is}
-use Rattle.sasi_tokentree.specs.Damages.{is_node_offset}
+use Rattle.sasi_tokentree.specs.Heights.{bytes_below_root}
+use Rattle.sasi_tokentree.proofs.HeightLaws.{levels_least, top_is, tree_length}
+use Rattle.sasi_tokentree.specs.Damages.{is_node_offset, is_tree_ref}
 
 -- a file in which the tree was written has it
 pub has_written : (old : Bytes) (at : ℕ) (pairs : List Pair) → at ≤ length old → IsRising pairs → AreFit pairs → HasTree (overlay old at (tree_bytes at pairs)) (tree_ref at pairs) pairs
@@ -63,3 +64,22 @@ is_root_offset at to pairs some le =
     let within : root + 24 ≤ to = omega (arith, place.within, le) in
     let second : nat_le (root + 24) to ≡ true = search (rules, within) in
     ap (λ (b : Bool). b && nat_le (root + 24) to) first ∙ second
+
+-- and the tree's own reference can be that of a tree there
+pub is_ref_of : (from at to : ℕ) (pairs : List Pair) → 0 < length pairs → from ≤ at → at + length (tree_bytes at pairs) ≤ to → to ≤ 2 ^ 62 → is_tree_ref from to (tree_ref at pairs) ≡ true
+is_ref_of from at to pairs some behind le short =
+    let root = (tree_ref at pairs).root in
+    let below = bytes_below_root (length pairs) (length pairs) in
+    let place = root_offset at pairs some in
+    let low : from ≤ root = omega (arith, behind, place.behind) in
+    let high : root + 24 ≤ to = omega (arith, place.within, le) in
+    let few : length pairs ≤ 2 ^ 58 = omega (arith, le, short, tree_length at pairs, levels_least (length pairs) (length pairs) (omega arith)) in
+    let room : from + below ≤ root = omega (arith, behind, top_is (length pairs) at (length pairs) some (omega arith)) in
+    let one : nat_le from root ≡ true = search (rules, low) in
+    let two : nat_le (root + 24) to ≡ true = search (rules, high) in
+    let three : nat_le (length pairs) (2 ^ 58) ≡ true = search (rules, few) in
+    let four : nat_le (from + below) root ≡ true = search (rules, room) in
+    all (nat_le from root) (nat_le (root + 24) to) (nat_le (length pairs) (2 ^ 58)) (nat_le (from + below) root) one two three four
+  where
+    all : (a b c d : Bool) → a ≡ true → b ≡ true → c ≡ true → d ≡ true → (a && b) && (c && d) ≡ true
+    all a b c d one two three four = ap (λ (t : Bool). (t && b) && (c && d)) one ∙ ap (λ (t : Bool). t && (c && d)) two ∙ ap (λ (t : Bool). t && d) three ∙ four

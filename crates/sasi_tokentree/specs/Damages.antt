@@ -1,5 +1,5 @@
 -- Where a file breaks the format of a tree, and what is there.
-use Rattle.std.specs.Prelude.{◌≡◌, ◌⊎◌, ℕ, ◌+◌, ◌-◌, ◌*◌, ◌/◌, ◌%◌, ◌<◌, nat_le, Bool, ◌&&◌, [], ◌∷◌, ◌++◌, length, min}
+use Rattle.std.specs.Prelude.{◌≡◌, ◌⊎◌, ℕ, ◌+◌, ◌-◌, ◌*◌, ◌/◌, ◌%◌, ◌^◌, ◌<◌, nat_le, Bool, ◌&&◌, [], ◌∷◌, ◌++◌, length, min}
 use Rattle.std.specs.Int.{to_be_bytes, w16, w32, w64}
 use Rattle.sasi_types.specs.declared.tree.Pair.{Pair}
 use Rattle.sasi_types.specs.declared.tree.TreeRef.{TreeRef}
@@ -25,6 +25,11 @@ pub data IsNodeFrom (node : Node) : ℕ → ℕ → ℕ → Type 0 where
 -- whether a node can stand at this offset, in the part of a file from one offset to another: the smallest one has one entry
 abbrev pub is_node_offset : ℕ → ℕ → ℕ → Bool
 is_node_offset from to place = nat_le from place && nat_le (place + 24) to
+
+-- Whether it can be the reference of a tree in the part of a file from one offset to another: its root can stand there, and so many pairs in
+-- front of the root. No file has room for more than 2^58.
+abbrev pub is_tree_ref : ℕ → ℕ → TreeRef → Bool
+is_tree_ref from to tree = is_node_offset from to tree.root && (nat_le tree.pairs (2 ^ 58) && nat_le (from + bytes_below_root tree.pairs tree.pairs) tree.root)
 
 -- where the first leaf of a tree begins
 abbrev pub start : TreeRef → ℕ

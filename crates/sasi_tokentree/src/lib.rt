@@ -15,6 +15,6 @@ mod writing;
 pub use node_layout::{MAX_ENTRIES, is_node_offset, tree_size};
 pub use order::is_rising;
 pub use sasi_types::{Pair, PairList, TreeRef};
-pub use seek::size_below_root;
+pub use seek::{is_tree_ref, size_below_root};
 pub use tree::Tree;
 pub use writing::{put_small_tree, write};

@@ -1,17 +1,20 @@
 // Searches a tree from the root down for the first pair at or after a token.
-ghost use Rattle.std.specs.Prelude.{◌≡◌, ◌+◌, ◌-◌, ◌*◌, ◌^◌, ◌<◌, ◌≤◌, List, ℕ, length, min, IfErr, IfOk, OnOk, Some};
+ghost use Rattle.std.specs.Prelude.{◌≡◌, ◌+◌, ◌-◌, ◌*◌, ◌^◌, ◌<◌, ◌≤◌, nat_le, List, ℕ, length, min, IfErr, IfOk, OnOk, Some};
 ghost use Rattle.sasi_types.specs.declared.tree.Pair.{Pair};
 ghost use Rattle.sasi_host.specs.View.{contents, ReadCost};
 ghost use Rattle.sasi_host.specs.PageReading.{CanReadOn, HasReadOn};
 ghost use Rattle.sasi_tokentree.specs.Format.{entries_of_node};
 ghost use Rattle.sasi_tokentree.specs.Heights.{level_limit, height, bytes_below_root};
-ghost use Rattle.sasi_tokentree.specs.Damages.{IsNodeFrom, ShownOf};
+ghost use Rattle.sasi_tokentree.specs.Damages.{IsNodeFrom, ShownOf, is_tree_ref};
 ghost use Rattle.sasi_tokentree.specs.Reads.{CountsBelow, CountsDown, CountsInNode, IsReached, NoFalseLevelDamage, HasLevels};
 
-use crate::node_layout::{MAX_ENTRIES, MAX_NODE_BYTES, level_size, node_count};
+use crate::node_layout::{MAX_ENTRIES, MAX_NODE_BYTES, is_node_offset, level_size, node_count};
 use crate::node_read::node_below;
 use sasi_host::{BufferedFile, Host, PageReader, ReadFault};
-use sasi_types::Token;
+use sasi_types::{Token, TreeRef};
+
+// No file has room for more pairs.
+const MAX_PAIRS: u64 = 1 << 58;
 
 /// How many bytes the levels below the root take, in a tree of so many pairs.
 pub fn size_below_root(count: usize) -> u64
@@ -23,6 +26,23 @@ pub fn size_below_root(count: usize) -> u64
         return 0;
     }
     level_size(count) + size_below_root(node_count(count))
+}
+
+// Whether so many bytes have room between two offsets.
+fn has_room(from: u64, to: u64, size: u64) -> bool
+    ensures { result ≡ nat_le (from + size) to }
+{
+    from <= to && size <= to - from
+}
+
+/// Whether it can be the reference of a tree in the part of a file from one offset to another: its root can stand there, and so
+/// many pairs in front of the root.
+pub fn is_tree_ref(from: u64, to: u64, tree: TreeRef) -> bool
+    ensures { result ≡ is_tree_ref from to tree }
+{
+    is_node_offset(from, to, tree.root)
+        && (tree.pairs <= MAX_PAIRS
+            && has_room(from, tree.root, size_below_root(tree.pairs as usize)))
 }
 
 // How many entries have tokens below this one, of a level at this offset that the levels above it follow.

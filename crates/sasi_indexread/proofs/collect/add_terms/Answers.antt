@@ -11,7 +11,7 @@ use Rattle.sasi_treemerge.proofs.Merging.{merge_still}
 use Rattle.sasi_treemerge.proofs.Stepping.{read_next}
 use Rattle.sasi_termblocks.specs.declared.block_ref.BlockRef.{BlockRef}
 use Rattle.sasi_termblocks.specs.declared.term_entry.TermEntry.{TermEntry}
-use Rattle.sasi_termblocks.specs.Scans.{ReadsSome, Scan}
+use Rattle.sasi_termblocks.specs.Scans.{GivesTree, ReadsSome, Scan}
 use Rattle.sasi_termblocks.proofs.Steps.{here_some}
 use Rattle.sasi_indexread.specs.Asked.{asked_lists, lower}
 use Rattle.sasi_indexread.specs.Collects.{AddsEntry}
@@ -56,6 +56,7 @@ loop-turn-init g c =
       can = merge_still v y c.args.merge.now c.seek.ensures.read.changes c.requires.merge;
       listed = c.requires.listed;
       stands = subst (λ (n : FileName). ReadsSome v n c.in_ok-entry.entry) named c.in_ok-entry.ensures.stands;
+      tree = subst (λ (r : BlockRef). GivesTree r.first c.in_ok-entry.entry) ref c.in_ok-entry.ensures.tree;
       collects = λ content on.
           starts v index c.args.op.now c.args.body.now (λ bytes is. (g.met.H.Host.sound c.args.host.now).fits index.file bytes is) c.requires.some content on c.args.merge.now.last c.args.merge.now.floor c.seek.new.self.page c.seek.new.self.index
           c.in_ok-entry.entry (sources_of c.args.merge.now) c.new-blocks.result.buffered.file c.new-blocks.result.blocks c.bytes.result.now named ref sought c.in_ok-entry.ensures.ok (c.requires.spill content on);
@@ -81,7 +82,7 @@ returns-in_err-add_entry-clause-damaged g c =
     let here = c.loop-turn.invariant in
     let index = c.args.index.now in
     rw (p.1, p.2) (list_shown v (g.H.Host.view c.loop-turn.host) index c.loop-turn.merge.file c.in-Some.found c.in_err-add_entry.field-0.0 here.read.changes here.named
-    (subst (λ (o : Option TermEntry). ReadsSome v index.file o) c.in-Some.is here.stands) c.in_err-add_entry.ensures.damaged)
+    (subst (λ (o : Option TermEntry). ReadsSome v index.file o) c.in-Some.is here.stands) (subst (λ (o : Option TermEntry). GivesTree index.blocks.first o) c.in-Some.is here.tree) c.in_err-add_entry.ensures.damaged)
 
 pub returns-in_err-add_entry-clause-undamaged : goal.returns-in_err-add_entry-clause-undamaged
 returns-in_err-add_entry-clause-undamaged g c =
@@ -123,7 +124,7 @@ returns-then-not-branch-clause-listed g c =
     let here = c.loop-turn.invariant in
     let index = c.args.index.now in
     entry_listed v (g.H.Host.view c.loop-turn.host) index c.loop-turn.merge.file c.args.op.now c.args.body.now c.in-Some.found c.in_ok-add_entry.field-0 (sources_of c.loop-turn.merge) (sources_of c.add_entry.new.merge) c.in_ok-add_entry.ensures.ok
-    (subst (λ (o : Option TermEntry). ReadsSome v index.file o) c.in-Some.is here.stands) here.listed
+    (subst (λ (o : Option TermEntry). ReadsSome v index.file o) c.in-Some.is here.stands) (subst (λ (o : Option TermEntry). GivesTree index.blocks.first o) c.in-Some.is here.tree) here.listed
 
 pub returns-in_err-entry-2-clause-damaged : goal.returns-in_err-entry-2-clause-damaged
 returns-in_err-entry-2-clause-damaged g c =
@@ -171,9 +172,10 @@ loop-turn-preserved g c =
       floor = c.add_entry.ensures.same.2 ∙ here.floor;
       can = merge_still u x c.add_entry.new.merge c.next.ensures.read.changes c.in_ok-add_entry.ensures.merge;
       listed = entry_listed v w index c.loop-turn.merge.file c.args.op.now c.args.body.now c.in-Some.found c.in_ok-add_entry.field-0 old new c.in_ok-add_entry.ensures.ok
-          (subst (λ (o : Option TermEntry). ReadsSome v index.file o) c.in-Some.is here.stands) here.listed;
+          (subst (λ (o : Option TermEntry). ReadsSome v index.file o) c.in-Some.is here.stands) (subst (λ (o : Option TermEntry). GivesTree index.blocks.first o) c.in-Some.is here.tree) here.listed;
       stands = here_some v u index.file c.loop-turn.blocks.buffered.file c.loop-turn.blocks.page c.loop-turn.blocks.index c.next.new.self.page c.next.new.self.index c.in_ok-entry-2.entry
           (λ bytes is. reads_still v u index.file c.loop-turn.blocks.buffered.file bytes change here.blocks_file is) c.in_ok-entry-2.ensures.stands;
+      tree = subst (λ (r : BlockRef). GivesTree r.first c.in_ok-entry-2.entry) here.blocks_ref c.in_ok-entry-2.ensures.tree;
       collects = λ content on.
           collects_further v index c.args.op.now c.args.body.now (λ bytes is. (g.met.H.Host.sound c.args.host.now).fits index.file bytes is) c.requires.some content on u m.last m.floor c.loop-turn._turn c.loop-turn.blocks.page c.loop-turn.blocks.index
           c.next.new.self.page c.next.new.self.index c.in-Some.found c.in_ok-entry-2.entry old new c.loop-turn.merge.file c.loop-turn.blocks.buffered.file c.loop-turn.blocks.blocks here.blocks_file here.blocks_ref here.named w here.read.changes change

@@ -2,7 +2,7 @@ use Rattle.std.proofs.Common.{◌≡◌, ◌+◌, ◌*◌}
 use Rattle.sasi_host.specs.View.{IsThere}
 use Rattle.sasi_host.specs.Buffered.{IsBuffered}
 use Rattle.sasi_host.specs.PageReading.{HasRead}
-use Rattle.sasi_termblocks.specs.Scans.{ReadsSome}
+use Rattle.sasi_termblocks.specs.Scans.{GivesTree, ReadsSome}
 use Rattle.sasi_treemerge.specs.Merges.{CanMerge, sources_of, unread_of}
 use Rattle.sasi_indexwrite.specs.Content.{IndexContent}
 use Rattle.sasi_indexread.specs.Opened.{IsOpenOn}
@@ -28,6 +28,7 @@ invariant-loop-turn g l =
       can : CanMerge (view l.host) l.merge;
       listed : AreListed (view l.fn.host) l.index (sources_of l.merge);
       stands : ReadsSome (view l.fn.host) l.index.file l.entry;
+      tree : GivesTree l.index.blocks.first l.entry;
       collects : (content : IndexContent) (on : IsOpenOn (view l.fn.host) l.index content)
           → Collects on.bytes content l.index.blocks l.op l.body l.fn.merge.last l.fn.merge.floor l._turn l.blocks.page l.blocks.index l.entry (sources_of l.merge);
       costs : (content : IndexContent) → IsOpenOn (view l.fn.host) l.index content → Costs content l.index.blocks l.op l.body l._turn l.blocks.page l.blocks.index l.entry

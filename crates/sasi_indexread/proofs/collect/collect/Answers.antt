@@ -15,12 +15,12 @@ use Rattle.sasi_indexread.proofs.collect.collect.Goals as goal
 pub returns-in_err-add-clause-damaged : goal.returns-in_err-add-clause-damaged
 returns-in_err-add-clause-damaged g c =
     let p = err_from_is_err_and c.from_residual.result c.from_residual.ensures.1 in
-    rw (p.1, p.2) (spill_shown (g.H.Host.view c.args.host.now) c.args.index.now c.args.merge.now.file c.spill.result c.in_err-add.field-0.0 c.requires.named c.spill.ensures c.in_err-add.ensures.damaged)
+    rw (p.1, p.2) (spill_shown (g.H.Host.view c.args.host.now) c.args.index.now c.args.merge.now.file c.spill.result c.in_err-add.field-0.0 c.requires.named c.spill.ensures.is c.spill.ensures.possible c.in_err-add.ensures.damaged)
 
 pub returns-in_err-add-clause-undamaged : goal.returns-in_err-add-clause-undamaged
 returns-in_err-add-clause-undamaged g c =
     let p = err_from_is_err_and c.from_residual.result c.from_residual.ensures.1 in
-    rw (p.1, p.2) (no_false_spill (g.H.Host.view c.args.host.now) c.args.index.now c.args.merge.now.file c.spill.result c.in_err-add.field-0.0 (λ bytes is. (g.met.H.Host.sound c.args.host.now).fits c.args.index.now.file bytes is) c.requires.named c.spill.ensures
+    rw (p.1, p.2) (no_false_spill (g.H.Host.view c.args.host.now) c.args.index.now c.args.merge.now.file c.spill.result c.in_err-add.field-0.0 (λ bytes is. (g.met.H.Host.sound c.args.host.now).fits c.args.index.now.file bytes is) c.requires.named c.spill.ensures.is
     c.in_err-add.ensures.undamaged)
 
 pub returns-then-asks_none-clause-ok : goal.returns-then-asks_none-clause-ok
@@ -29,21 +29,21 @@ returns-then-asks_none-clause-ok g c content on =
     let asks : asks_none index.kind c.args.op.now ≡ true = ap (λ (k : ColumnType). asks_none k c.args.op.now) (sym c.kind.ensures) ∙ sym c.asks_none.ensures ∙ c.if-asks_none.true in
     spill_alone content index c.args.op.now c.args.body.now on.bytes c.add.new.self.last c.add.new.self.floor (sources_of c.add.new.self) on.kind asks
     (spill_gives (g.H.Host.view c.args.host.now) index c.args.merge.now.file c.spill.result c.add.new.self.last c.add.new.self.floor (sources_of c.args.merge.now) (sources_of c.add.new.self)
-    (λ bytes is. (g.met.H.Host.sound c.args.host.now).fits index.file bytes is) c.requires.named c.spill.ensures c.requires.empty c.in_ok-add.ensures.ok content on)
+    (λ bytes is. (g.met.H.Host.sound c.args.host.now).fits index.file bytes is) c.requires.named c.spill.ensures.is c.requires.empty c.in_ok-add.ensures.ok content on)
 
 pub returns-then-asks_none-clause-listed : goal.returns-then-asks_none-clause-listed
 returns-then-asks_none-clause-listed g c =
-    spill_listed (g.H.Host.view c.args.host.now) c.args.index.now c.args.merge.now.file c.spill.result (sources_of c.args.merge.now) (sources_of c.add.new.self) c.spill.ensures c.requires.empty c.in_ok-add.ensures.ok
+    spill_listed (g.H.Host.view c.args.host.now) c.args.index.now c.args.merge.now.file c.spill.result (sources_of c.args.merge.now) (sources_of c.add.new.self) c.spill.ensures.is c.spill.ensures.possible c.requires.empty c.in_ok-add.ensures.ok
 
 pub add_terms-requires-clause-listed : goal.add_terms-requires-clause-listed
 add_terms-requires-clause-listed g c =
     listed_now (g.H.Host.view c.args.host.now) (g.H.Host.view c.add.new.host) c.args.index.now (sources_of c.add.new.self) c.add.ensures.read.changes
-    (spill_listed (g.H.Host.view c.args.host.now) c.args.index.now c.args.merge.now.file c.spill.result (sources_of c.args.merge.now) (sources_of c.add.new.self) c.spill.ensures c.requires.empty c.in_ok-add.ensures.ok)
+    (spill_listed (g.H.Host.view c.args.host.now) c.args.index.now c.args.merge.now.file c.spill.result (sources_of c.args.merge.now) (sources_of c.add.new.self) c.spill.ensures.is c.spill.ensures.possible c.requires.empty c.in_ok-add.ensures.ok)
 
 pub add_terms-requires-clause-spill : goal.add_terms-requires-clause-spill
 add_terms-requires-clause-spill g c content on =
     spill_gives_now (g.H.Host.view c.args.host.now) (g.H.Host.view c.add.new.host) c.args.index.now c.args.merge.now.file c.spill.result c.add.new.self.last c.add.new.self.floor (sources_of c.args.merge.now) (sources_of c.add.new.self) c.add.ensures.read.changes
-    (λ bytes is. (g.met.H.Host.sound c.args.host.now).fits c.args.index.now.file bytes is) c.requires.named c.spill.ensures c.requires.empty c.in_ok-add.ensures.ok content on
+    (λ bytes is. (g.met.H.Host.sound c.args.host.now).fits c.args.index.now.file bytes is) c.requires.named c.spill.ensures.is c.requires.empty c.in_ok-add.ensures.ok content on
 
 pub returns-in_err-add_terms-clause-damaged : goal.returns-in_err-add_terms-clause-damaged
 returns-in_err-add_terms-clause-damaged g c =
@@ -76,7 +76,7 @@ returns-then-asks_none-clause-reads g c content on =
       arith,
       c.in_ok-add.ensures.reads,
       none_unread (sources_of c.args.merge.now) c.requires.empty,
-      spill_pairs (g.H.Host.view c.args.host.now) c.args.index.now c.spill.result (λ bytes is. (g.met.H.Host.sound c.args.host.now).fits c.args.index.now.file bytes is) c.spill.ensures content on,
+      spill_pairs (g.H.Host.view c.args.host.now) c.args.index.now c.spill.result (λ bytes is. (g.met.H.Host.sound c.args.host.now).fits c.args.index.now.file bytes is) c.spill.ensures.is content on,
     )
 
 pub returns-clause-reads : goal.returns-clause-reads
@@ -85,7 +85,7 @@ returns-clause-reads g c content on =
       arith,
       c.in_ok-add.ensures.reads,
       none_unread (sources_of c.args.merge.now) c.requires.empty,
-      spill_pairs (g.H.Host.view c.args.host.now) c.args.index.now c.spill.result (λ bytes is. (g.met.H.Host.sound c.args.host.now).fits c.args.index.now.file bytes is) c.spill.ensures content on,
+      spill_pairs (g.H.Host.view c.args.host.now) c.args.index.now c.spill.result (λ bytes is. (g.met.H.Host.sound c.args.host.now).fits c.args.index.now.file bytes is) c.spill.ensures.is content on,
       c.in_ok-add_terms.ensures.reads content (open_still (g.H.Host.view c.args.host.now) (g.H.Host.view c.add.new.host) c.args.index.now content c.add.ensures.read.changes on),
     )
 
@@ -96,7 +96,7 @@ returns-in_err-add-clause-reads g c content on =
       arith,
       c.in_err-add.ensures.reads,
       none_unread (sources_of c.args.merge.now) c.requires.empty,
-      spill_pairs (g.H.Host.view c.args.host.now) c.args.index.now c.spill.result (λ bytes is. (g.met.H.Host.sound c.args.host.now).fits c.args.index.now.file bytes is) c.spill.ensures content on,
+      spill_pairs (g.H.Host.view c.args.host.now) c.args.index.now c.spill.result (λ bytes is. (g.met.H.Host.sound c.args.host.now).fits c.args.index.now.file bytes is) c.spill.ensures.is content on,
     ))
 
 pub returns-in_err-add_terms-clause-reads : goal.returns-in_err-add_terms-clause-reads
@@ -106,6 +106,6 @@ returns-in_err-add_terms-clause-reads g c content on =
       arith,
       c.in_ok-add.ensures.reads,
       none_unread (sources_of c.args.merge.now) c.requires.empty,
-      spill_pairs (g.H.Host.view c.args.host.now) c.args.index.now c.spill.result (λ bytes is. (g.met.H.Host.sound c.args.host.now).fits c.args.index.now.file bytes is) c.spill.ensures content on,
+      spill_pairs (g.H.Host.view c.args.host.now) c.args.index.now c.spill.result (λ bytes is. (g.met.H.Host.sound c.args.host.now).fits c.args.index.now.file bytes is) c.spill.ensures.is content on,
       c.in_err-add_terms.ensures.reads content (open_still (g.H.Host.view c.args.host.now) (g.H.Host.view c.add.new.host) c.args.index.now content c.add.ensures.read.changes on),
     ))

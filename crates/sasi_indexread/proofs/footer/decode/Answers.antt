@@ -1,6 +1,7 @@
 use Rattle.std.proofs.lemmas.Result.{err_from_is_err_and}
 use Rattle.sasi_framing.proofs.Reading.{framed, header_shows, mark_shows, numbers_show}
 use Rattle.sasi_indexread.specs.HeaderAndFooter.{index_framing}
+use Rattle.sasi_indexread.proofs.Fields.{footer_spill}
 use Rattle.sasi_indexread.proofs.footer.decode.Goals as goal
 
 pub returns-in_err-check_mark-clause-damaged : goal.returns-in_err-check_mark-clause-damaged
@@ -29,3 +30,6 @@ returns-clause-ok c bytes read = record {
       framed index_framing c.args.file c.args.size c.args.footer.now _ _ bytes c.requires.footer c.requires.size c.split_at.ensures.front c.split_at.ensures.back read.end c.args.header.now c.in_ok-fields.fields c.in_ok-numbers.numbers read.begins
       c.in_ok-fields.ensures.is c.in_ok-numbers.ensures.is c.in_ok-check_mark.ensures.is;
 }
+
+pub returns-clause-spill : goal.returns-clause-spill
+returns-clause-spill c = footer_spill _ c.in_ok-numbers.numbers _ c.in_ok-numbers.ensures.is

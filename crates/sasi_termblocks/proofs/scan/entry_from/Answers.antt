@@ -43,7 +43,7 @@ returns-in_err-load_block-clause-damaged g c =
     let v = g.H.Host.view c.args.host.now in
     let file = c.args.buffered.now.file in
     rw (p.1, p.2) (given_shown v file c.args.blocks c.args.position.page c.args.position.index c.args.least.now c.in_err-load_block.field-0.0 c.requires.low (omega arith)
-    (end_of_block (BreaksGiven c.args.position.index c.args.least.now) v file c.args.position.page c.in_err-load_block.field-0.0 c.in_err-load_block.ensures.damaged))
+    (end_of_block (BreaksGiven c.args.blocks.first c.args.position.index c.args.least.now) v file c.args.position.page c.in_err-load_block.field-0.0 c.in_err-load_block.ensures.damaged))
 
 pub returns-in-Ok-clause-ends : goal.returns-in-Ok-clause-ends
 returns-in-Ok-clause-ends g c =
@@ -55,6 +55,6 @@ pub returns-in-Err-clause-damaged : goal.returns-in-Err-clause-damaged
 returns-in-Err-clause-damaged g c =
     let v = g.H.Host.view c.args.host.now in
     given_shown v c.args.buffered.now.file c.args.blocks c.args.position.page c.args.position.index c.args.least.now c.fault_of.result c.requires.low (omega arith)
-    (lifted_shown (BreaksGiven c.args.position.index c.args.least.now) v c.args.buffered.now.file c.file-in-Err.result c.args.position.page c.loaded_block.result.now c.in-Err.fault c.fault_of.result
+    (lifted_shown (BreaksGiven c.args.blocks.first c.args.position.index c.args.least.now) v c.args.buffered.now.file c.file-in-Err.result c.args.position.page c.loaded_block.result.now c.in-Err.fault c.fault_of.result
     (c.file-in-Err.ensures ∙ c.load_block.ensures.read.file) c.in-Err.ensures.seen c.fault_of.ensures c.loaded_block.ensures.whole
     (λ bytes is. subst (λ (w : Bytes). HasAt bytes (4096 * c.args.position.page) w) (sym c.loaded_block.ensures.is) (c.in_ok-load_block.ensures.is bytes is)))

@@ -2,7 +2,7 @@ use Rattle.std.proofs.Common.{arith, subst}
 use Rattle.std.proofs.lemmas.Result.{err_from_is_err_and}
 use Rattle.sasi_host.specs.Damages.{DamageShown}
 use Rattle.sasi_termblocks.specs.Damages.{ShowsBlocks}
-use Rattle.sasi_termblocks.specs.Scans.{EndsPast, NoFalseDamage, ReadsHere, ReadsNext, Scan}
+use Rattle.sasi_termblocks.specs.Scans.{EndsPast, GivesTree, NoFalseDamage, ReadsHere, ReadsNext, Scan}
 use Rattle.sasi_termblocks.proofs.PointersSound.{no_false}
 use Rattle.sasi_termblocks.proofs.Shown.{next_shown}
 use Rattle.sasi_termblocks.proofs.blocks.Blocks.next.Goals as goal
@@ -33,3 +33,6 @@ returns-in_err-found-clause-undamaged g c =
 pub returns-clause-ends : goal.returns-clause-ends
 returns-clause-ends g c = subst (λ (h : Scan). EndsPast (g.H.Host.view c.args.host.now) h.buffered.file h.blocks h.page h.index c.in_ok-found.found.position.page c.in_ok-found.found.position.index
     c.in_ok-found.found.entry) c.self.view_is c.in_ok-found.ensures.ends
+
+pub returns-clause-tree : goal.returns-clause-tree
+returns-clause-tree g c = subst (λ (h : Scan). GivesTree h.blocks.first c.in_ok-found.found.entry) c.self.view_is c.in_ok-found.ensures.tree
