@@ -1,5 +1,5 @@
 -- What a plan of a SELECT says: which rows it asks for, and where they are looked for.
-use Rattle.std.specs.Prelude.{◌≡◌, ℕ, nat_eq, true, false, if◌then◌else◌, List, [], ◌∷◌, map, Option, None, Some, unwrap_or}
+use Rattle.std.specs.Prelude.{◌≡◌, ◌==◌, ℕ, nat_eq, Bool, not, true, false, if◌then◌else◌, List, [], ◌∷◌, length, map, Option, None, Some, unwrap_or}
 use Rattle.sasi_types.specs.declared.column.ColumnType.{ColumnType}
 use Rattle.sasi_types.specs.declared.index_def.IndexDef.{IndexDef}
 use Rattle.sasi_types.specs.declared.partitioner.Partitioner.{Partitioner}
@@ -54,3 +54,9 @@ IsSourceOf partitioner defs conditions Nothing = (bytes : List ℕ) × (key_aske
 IsSourceOf partitioner defs conditions (FromKey key relations) =
     (key_asked conditions ≡ Some key.key) × (agree key.key conditions ≡ true) × (key ≡ decorated partitioner key.key) × (relations.items ≡ map (relation_of defs) (asked_of conditions))
 IsSourceOf partitioner defs conditions (OfTable relations) = (key_asked conditions ≡ None) × (relations.items ≡ map (relation_of defs) (asked_of conditions))
+
+-- they are those of hits, which are asked of indexes and looked up token by token
+abbrev pub asks_indexes : PlanSource → Bool
+asks_indexes Nothing = false
+asks_indexes (FromKey key relations) = not (length relations.items == 0)
+asks_indexes (OfTable relations) = not (length relations.items == 0)

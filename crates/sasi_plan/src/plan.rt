@@ -13,7 +13,7 @@ ghost use Rattle.sasi_machine.specs.Operands.{CanSelect};
 ghost use Rattle.sasi_machine.specs.Picks.{pick};
 ghost use Rattle.sasi_machine.specs.Where.{model_condition};
 ghost use Rattle.sasi_engine.specs.Asked.{asked_of};
-ghost use Rattle.sasi_plan.specs.Plans.{IsAskedOf, IsNumbered, IsSourceOf};
+ghost use Rattle.sasi_plan.specs.Plans.{IsAskedOf, IsNumbered, IsSourceOf, asks_indexes};
 ghost use Rattle.sasi_engine.specs.KeyedHits.{agree};
 
 use crate::relations::relations_of;
@@ -94,6 +94,18 @@ impl Plan {
             types,
             source,
         })
+    }
+
+    /// Whether its candidates are those of hits. A reader of the plan then goes down trees from their roots for each token, and reads some
+    /// pages again and again; without hits it reads each page about once.
+    pub fn asks_indexes(&self) -> bool
+        ensures { result ≡ asks_indexes self.now.source }
+    {
+        match &self.source {
+            PlanSource::Nothing => false,
+            PlanSource::OfKey(_key, relations) => !relations.as_slice().is_empty(),
+            PlanSource::OfTable(relations) => !relations.as_slice().is_empty(),
+        }
     }
 }
 

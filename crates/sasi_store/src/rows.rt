@@ -10,7 +10,7 @@ ghost use Rattle.sasi_plan.specs.Answers.{CountsTo, ReadsLeft, RowsLeft};
 ghost use Rattle.sasi_store.specs.Printing.{PrintsNext, picked_lines};
 
 use sasi_analyzers::Kit;
-use sasi_host::{Direct, Host, ReadFault};
+use sasi_host::{Host, PageReader, ReadFault};
 use sasi_machine::Reply;
 use sasi_memindex::MapBook;
 use sasi_plan::{PlanCandidates, Reader};
@@ -19,16 +19,17 @@ use sasi_recheck::Candidates;
 use std::alloc::Global;
 
 /// Prints the rows that a reader has left, in their order, and their number, and gives how many candidates were checked for them. Of the table
-/// it has one partition in memory at a time.
-pub fn print_rows<H: Host>(
+/// it has one partition in memory at a time, and what `pages` keeps.
+pub fn print_rows<H: Host, P: PageReader>(
     alloc: Global,
     host: &mut H,
+    pages: &mut P,
     kit: &mut Kit,
     maps: &MapBook,
     reader: &mut Reader,
     reply: &mut Reply,
 ) -> Result<u64, ReadFault>
-    requires read { CanStream (λ _. Unit {0}) (⟦<PlanCandidates as Candidates>⟧.opens reader.old.rows.candidates) (H.view host.old) }
+    requires read { CanStream (P.agrees pages.old) (⟦<PlanCandidates as Candidates>⟧.opens reader.old.rows.candidates) (H.view host.old) }
     requires ready { ⟦<PlanCandidates as Candidates>⟧.ready reader.old.rows.candidates (H.view host.old).files maps.now }
     requires prints { ⟦<PlanCandidates as Candidates>⟧.prints reader.old.rows.candidates (H.view host.old).files maps.now reader.old.picked.key }
     requires known { KnowsWhere (map (λ b. kind (b.vtable, b.value)) kit.old.objects.items) reader.old.rows.filter }
@@ -45,7 +46,7 @@ pub fn print_rows<H: Host>(
 {
     let mut rows = 0u64;
     for _turn in 0..u64::MAX {
-        let printed = print_next(alloc, host, kit, maps, reader, reply)?;
+        let printed = print_next(alloc, host, pages, kit, maps, reader, reply)?;
         if !printed {
             count(reply, rows)?;
             return Ok(reader.checked());
@@ -57,15 +58,16 @@ pub fn print_rows<H: Host>(
 }
 
 // Prints the next row, if one is left, and tells whether one was.
-fn print_next<H: Host>(
+fn print_next<H: Host, P: PageReader>(
     alloc: Global,
     host: &mut H,
+    pages: &mut P,
     kit: &mut Kit,
     maps: &MapBook,
     reader: &mut Reader,
     reply: &mut Reply,
 ) -> Result<bool, ReadFault>
-    requires read { CanStream (λ _. Unit {0}) (⟦<PlanCandidates as Candidates>⟧.opens reader.old.rows.candidates) (H.view host.old) }
+    requires read { CanStream (P.agrees pages.old) (⟦<PlanCandidates as Candidates>⟧.opens reader.old.rows.candidates) (H.view host.old) }
     requires ready { ⟦<PlanCandidates as Candidates>⟧.ready reader.old.rows.candidates (H.view host.old).files maps.now }
     requires prints { ⟦<PlanCandidates as Candidates>⟧.prints reader.old.rows.candidates (H.view host.old).files maps.now reader.old.picked.key }
     requires known { KnowsWhere (map (λ b. kind (b.vtable, b.value)) kit.old.objects.items) reader.old.rows.filter }
@@ -80,11 +82,11 @@ fn print_next<H: Host>(
     ensures conditions { reader.new.rows.filter ≡ reader.old.rows.filter }
     ensures view { reader.new.rows.candidates.view ≡ reader.old.rows.candidates.view }
     ensures kinds { map (λ b. kind (b.vtable, b.value)) kit.new.objects.items ≡ map (λ b. kind (b.vtable, b.value)) kit.old.objects.items }
-    ensures read { HasStreamed (λ _. Unit {0}) (λ _. ⊥) (λ _. ⊥) (⟦<PlanCandidates as Candidates>⟧.opens reader.old.rows.candidates) (⟦<PlanCandidates as Candidates>⟧.opens reader.new.rows.candidates) (H.view host.old) (H.view host.new) }
+    ensures read { HasStreamed (P.agrees pages.new) (P.covers pages.old) (P.covers pages.new) (⟦<PlanCandidates as Candidates>⟧.opens reader.old.rows.candidates) (⟦<PlanCandidates as Candidates>⟧.opens reader.new.rows.candidates) (H.view host.old) (H.view host.new) }
     ensures faults { StreamFaults (⟦<PlanCandidates as Candidates>⟧.shows reader.old.rows.candidates (H.view host.old).files) (⟦<PlanCandidates as Candidates>⟧.shows reader.new.rows.candidates (H.view host.new).files)
         (RowsLeft ⟦<PlanCandidates as Candidates>⟧.leaves reader.old.rows (H.view host.old).files maps.now) (H.view host.old) (H.view host.new) result }
 {
-    let Some((key, part)) = reader.next_partition(host, &mut Direct, maps, kit)? else {
+    let Some((key, part)) = reader.next_partition(host, pages, maps, kit)? else {
         return Ok(false);
     };
     picked_row(alloc, reply, &key, &part, reader.picked())?;

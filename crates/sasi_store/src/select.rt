@@ -21,12 +21,16 @@ use crate::rows::print_rows;
 use crate::session_state::SessionState;
 use crate::view_parts::view_parts;
 use sasi_analyzers::Kit;
-use sasi_host::{Host, ReadFault};
+use sasi_cache::Cached;
+use sasi_host::{Direct, Host, PageReader, ReadFault};
 use sasi_machine::{Reply, Selection};
 use sasi_plan::{Plan, Reader};
 use sasi_print::checked;
 use sasi_views::ViewBook;
 use std::alloc::AllocError;
+
+// How many pages a SELECT keeps of those that it has read: 4 MiB.
+const CACHED_PAGES: usize = 1024;
 
 /// Prints the rows that a SELECT asks for, and where TRACE is on how many candidates were checked for them.
 pub fn select<H: Host>(
@@ -107,11 +111,11 @@ fn answer<H: Host>(
     let index = rows.table as usize - 1;
     let table = &listing.tables.as_slice()[index].table;
     let plan = Plan::new(parts.alloc, &rows.select, table, listing.partitioner, kit)?;
-    Ok(read_view(parts, views, host, kit, rows, plan, reply)?)
+    Ok(read_plan(parts, views, host, kit, rows, plan, reply)?)
 }
 
-// Prints the rows of a plan over a view of the current parts of its table.
-fn read_view<H: Host>(
+// Prints the rows of a plan. Pages that are read again and again are kept until the last row.
+fn read_plan<H: Host>(
     parts: &Parts,
     views: &mut ViewBook,
     host: &mut H,
@@ -135,10 +139,52 @@ fn read_view<H: Host>(
     ensures causes { ScanCauses (H.view host.old) (H.view host.new) result }
     ensures back { HasNoneOut views.new }
 {
+    if !plan.asks_indexes() {
+        return read_view(parts, views, host, &mut Direct, kit, rows, plan, reply);
+    }
+    let mut pages = Cached::new(parts.alloc, CACHED_PAGES)?;
+    read_view(parts, views, host, &mut pages, kit, rows, plan, reply)
+}
+
+// Prints the rows of a plan over a view of the current parts of its table.
+fn read_view<H: Host, P: PageReader>(
+    parts: &Parts,
+    views: &mut ViewBook,
+    host: &mut H,
+    pages: &mut P,
+    kit: &mut Kit,
+    rows: &Selection,
+    plan: Plan,
+    reply: &mut Reply,
+) -> Result<u64, ReadFault>
+    requires ready { CanChange (H.view host.old) (memory_of parts.now) }
+    requires parts { IsOfParts parts.now }
+    requires plan { IsPlanFor parts.now rows.now plan }
+    requires known { KnowsWhere (map (λ b. kind (b.vtable, b.value)) kit.old.objects.items) plan.conditions }
+    requires none_out { HasNoneOut views.old }
+    requires agrees { P.agrees pages.old (H.view host.old).files }
+    ensures ok { OnOk result ((l : Layout) → Serves (H.view host.old) (memory_of parts.now) l → reply.new ≡ reply.old ++ answer_rows (state_of l) rows.now) }
+    ensures counted { IfOk result (λ checked. (l : Layout) → Serves (H.view host.old) (memory_of parts.now) l → checked ≡ selection_checks l rows.now) }
+    ensures reads { (l : Layout) → Serves (H.view host.old) (memory_of parts.now) l → HasShortFiles (H.view host.old).files l rows.now → (H.view host.new).reads ≤ (H.view host.old).reads + selection_reads (H.view host.old).files l rows.now }
+    ensures damaged { (folder : Folder) → (H.view host.old).files ≡ Some folder → IfErr result (OnDamage (FolderShows folder)) }
+    ensures undamaged { (l : Layout) → Serves (H.view host.old) (memory_of parts.now) l → IfErr result (OnDamage (λ _. ⊥)) }
+    ensures kinds { map (λ b. kind (b.vtable, b.value)) kit.new.objects.items ≡ map (λ b. kind (b.vtable, b.value)) kit.old.objects.items }
+    ensures changes { Changes Same (H.view host.old) (H.view host.new) }
+    ensures causes { ScanCauses (H.view host.old) (H.view host.new) result }
+    ensures back { HasNoneOut views.new }
+{
     let current = view_parts(parts.alloc, parts, rows.table)?;
     let view = views.take(current)?;
     let mut reader = Reader::new(plan, view);
-    let printed = print_rows(parts.alloc, host, kit, &parts.maps, &mut reader, reply);
+    let printed = print_rows(
+        parts.alloc,
+        host,
+        pages,
+        kit,
+        &parts.maps,
+        &mut reader,
+        reply,
+    );
     views.give(reader.end());
     printed
 }

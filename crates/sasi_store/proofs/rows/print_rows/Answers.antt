@@ -29,7 +29,7 @@ loop-turn-init g c =
       counts = λ count is. is;
       reads = λ most left. (most, left, omega arith);
       kinds = refl;
-      read = streams_nothing _ _ _ v tt;
+      read = streams_nothing _ _ _ v c.requires.read.agrees;
       faults = λ n. fails_nothing _ _ v n;
     }
 

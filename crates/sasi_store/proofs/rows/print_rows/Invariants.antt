@@ -14,7 +14,7 @@ invariant-loop-turn g l =
     let was = l.fn.reader.rows in
     let now = l.reader.rows in
     record {
-      can : CanStream (λ _. Unit {0}) (source.opens-value.it now.candidates) v;
+      can : CanStream (g.P.PageReader.agrees l.pages) (source.opens-value.it now.candidates) v;
       ready : source.ready-value.it now.candidates v.files l.maps;
       prints : source.prints-value.it now.candidates v.files l.maps l.fn.reader.picked.key;
       picked : l.reader.picked ≡ l.fn.reader.picked;
@@ -25,6 +25,6 @@ invariant-loop-turn g l =
       counts : (count : ℕ) → CountsTo source.leaves-value.it was u.files l.maps count → CountsTo source.leaves-value.it now v.files l.maps count;
       reads : (most : ℕ) → ReadsLeft source.leaves-value.it source.pays-value.it was u.files l.maps most → (rest : ℕ) × ReadsLeft source.leaves-value.it source.pays-value.it now v.files l.maps rest × (v.reads + rest ≤ u.reads + most);
       kinds : map (λ b. (goal.Analyzer-dyn g (b.vtable, b.value)).kind b.value) l.kit.objects.items ≡ map (λ b. (goal.Analyzer-dyn g (b.vtable, b.value)).kind b.value) l.fn.kit.objects.items;
-      read : HasStreamed (λ _. Unit {0}) (λ _. ⊥) (λ _. ⊥) (source.opens-value.it was.candidates) (source.opens-value.it now.candidates) u v;
+      read : HasStreamed (g.P.PageReader.agrees l.pages) (g.P.PageReader.covers l.fn.pages) (g.P.PageReader.covers l.pages) (source.opens-value.it was.candidates) (source.opens-value.it now.candidates) u v;
       faults : (n : ℕ) → StreamFaults (source.shows-value.it was.candidates u.files) (source.shows-value.it now.candidates v.files) (RowsLeft source.leaves-value.it was u.files l.maps) u v (Ok n);
     }

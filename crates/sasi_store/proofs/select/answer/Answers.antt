@@ -35,28 +35,28 @@ returns-in_err-plan-clause-changes g c = stays (g.H.Host.view c.args.host.now)
 pub returns-in_err-plan-clause-reads : goal.returns-in_err-plan-clause-reads
 returns-in_err-plan-clause-reads g c l serves short = omega arith
 
-pub read_view-requires-clause-plan : goal.read_view-requires-clause-plan
-read_view-requires-clause-plan g c =
+pub read_plan-requires-clause-plan : goal.read_plan-requires-clause-plan
+read_plan-requires-clause-plan g c =
     let e = c.in_ok-plan.ensures in
     let seen = c.as_slice.ensures.tables ∙ ap (λ (l : Listing). l.tables) c.listing-listing.ensures.listing in
     planned (g.H.Host.view c.args.host.now) c.args.parts.now c.requires.ready c.args.rows.now c.requires.there c.as_slice.result.now seen c.index-as_slice-index.result c.index-as_slice-index.is c.in_ok-plan.plan _ c.index-as_slice-index.is
     e.key e.columns e.limit e.conditions e.types _ (ap (λ (l : Listing). l.partitioner) c.listing-listing.ensures.listing) e.source e.asked
 
-pub read_view-requires-clause-known : goal.read_view-requires-clause-known
-read_view-requires-clause-known g c class lacks =
+pub read_plan-requires-clause-known : goal.read_plan-requires-clause-known
+read_plan-requires-clause-known g c class lacks =
     let seen = c.as_slice.ensures.tables ∙ ap (λ (l : Listing). l.tables) c.listing-listing.ensures.listing in
     none_lacks (g.H.Host.view c.args.host.now) c.args.parts.now c.requires.ready c.args.rows.now c.requires.there c.as_slice.result.now seen c.index-as_slice-index.result c.index-as_slice-index.is _
     (subst (λ (kinds : List Class). KnowsClasses kinds (memory_of c.args.parts.now)) (sym c.new.ensures.kinds) c.requires.classes) class
     (subst (λ (row : ListedTable). TableLacks (map (λ b. (goal.Analyzer-dyn g (b.vtable, b.value)).kind b.value) c.new.new.kit.objects.items) (definition row.table) class) (sym c.index-as_slice-index.is) (c.in_ok-plan.ensures.classes _ class lacks))
 
-pub returns-in_err-read_view-clause-damaged : goal.returns-in_err-read_view-clause-damaged
-returns-in_err-read_view-clause-damaged g c folder now =
-    let p = err_from_is_err_and c.from_residual-in_err-read_view.result c.from_residual-in_err-read_view.ensures.1 in
+pub returns-in_err-read_plan-clause-damaged : goal.returns-in_err-read_plan-clause-damaged
+returns-in_err-read_plan-clause-damaged g c folder now =
+    let p = err_from_is_err_and c.from_residual-in_err-read_plan.result c.from_residual-in_err-read_plan.ensures.1 in
     let v = g.H.Host.view c.args.host.now in
-    rw (p.1, p.2) (on_damage (FolderShows folder) (FolderShows folder) (λ damage shows. shows) c.in_err-read_view.field-0.0
-    (c.in_err-read_view.ensures.damaged folder (files_before v (g.H.Host.view c.read_view.new.host) c.read_view.ensures.changes folder now)))
+    rw (p.1, p.2) (on_damage (FolderShows folder) (FolderShows folder) (λ damage shows. shows) c.in_err-read_plan.field-0.0
+    (c.in_err-read_plan.ensures.damaged folder (files_before v (g.H.Host.view c.read_plan.new.host) c.read_plan.ensures.changes folder now)))
 
-pub returns-in_err-read_view-clause-undamaged : goal.returns-in_err-read_view-clause-undamaged
-returns-in_err-read_view-clause-undamaged g c l serves =
-    let p = err_from_is_err_and c.from_residual-in_err-read_view.result c.from_residual-in_err-read_view.ensures.1 in
-    rw (p.1, p.2) (on_damage (λ _. ⊥) (λ _. ⊥) (λ damage none. none) c.in_err-read_view.field-0.0 (c.in_err-read_view.ensures.undamaged l serves))
+pub returns-in_err-read_plan-clause-undamaged : goal.returns-in_err-read_plan-clause-undamaged
+returns-in_err-read_plan-clause-undamaged g c l serves =
+    let p = err_from_is_err_and c.from_residual-in_err-read_plan.result c.from_residual-in_err-read_plan.ensures.1 in
+    rw (p.1, p.2) (on_damage (λ _. ⊥) (λ _. ⊥) (λ damage none. none) c.in_err-read_plan.field-0.0 (c.in_err-read_plan.ensures.undamaged l serves))

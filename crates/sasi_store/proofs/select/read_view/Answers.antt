@@ -61,7 +61,7 @@ print_rows-printed-requires-clause-read g c =
     let listed = c.in_ok-view.ensures.parts ∙ c.in_ok-current.ensures in
     record {
       there = λ name opens. view_there v c.args.parts.now c.requires.ready c.args.rows.now.table name (subst (λ (ps : List Part). is_file_of ps name ≡ true) listed (c.new-reader.ensures.opens name opens));
-      agrees = tt;
+      agrees = c.requires.agrees;
     }
 
 pub print_rows-printed-requires-clause-ready : goal.print_rows-printed-requires-clause-ready

@@ -1,0 +1,2 @@
+mod Forgotten
+mod Kept
