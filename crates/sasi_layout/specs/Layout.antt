@@ -65,10 +65,10 @@ numbered n number (x ∷ xs) = if nat_eq n number then Some x else numbered (suc
 
 -- ---- indexes
 
--- a flush writes the index file of an index of this mode; those of the other modes aren't built yet
+-- a flush writes the index file of an index of this mode; those of the mode Sparse aren't built yet
 abbrev pub is_built : Mode → Bool
 is_built Prefix = true
-is_built Contains = false
+is_built Contains = true
 is_built Sparse = false
 
 -- the indexes with their numbers

@@ -134,8 +134,7 @@ fn is_built(mode: Mode) -> bool
     ensures { result ≡ is_built mode }
 {
     match mode {
-        Mode::Prefix => true,
-        Mode::Contains => false,
+        Mode::Prefix | Mode::Contains => true,
         Mode::Sparse => false,
     }
 }
