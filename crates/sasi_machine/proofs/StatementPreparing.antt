@@ -6,6 +6,7 @@ use Rattle.std.specs.Option.{option_map, option_map_or}
 use Rattle.std.proofs.lemmas.List.{length-map}
 use Rattle.sasi_types.specs.declared.partitioner.Partitioner.{Partitioner}
 use Rattle.sasi_types.specs.declared.partitioner.Partitioner.TheVariants.{Lead8}
+use Rattle.sasi_types.specs.declared.index_def.IndexDef.{IndexDef}
 use Rattle.sasi_types.specs.declared.statement.Select.{Select}
 use Rattle.sasi_types.specs.declared.statement.Statement.{Statement}
 use Rattle.sasi_types.specs.declared.statement.Statement.TheVariants.{CreateTable, CreateIndex, Flush, Query, Trace}
@@ -21,6 +22,7 @@ use Rattle.sasi_types.specs.declared.column.ColumnType.{ColumnType}
 use Rattle.sasi_types.specs.declared.column.ColumnType.TheVariants as types
 use Rattle.sasi_machine.proofs.StatementBodies.{change_fits}
 use Rattle.sasi_model.specs.Changes.{changed_tables, empty_table, state_with_index, with_new_table}
+use Rattle.sasi_model.specs.Indexes.{index_of}
 use Rattle.sasi_model.specs.Pieces.{Piece}
 use Rattle.sasi_model.specs.Refusals.{Known, Refusal, RefusalRule, Says, create_rules, flush_rules, known_of, read, refusal, rules, select_rules}
 use Rattle.sasi_model.specs.State as model
@@ -41,7 +43,7 @@ use Rattle.sasi_memtable.specs.MemtableView.{MemtableView, empty_memtable}
 use Rattle.sasi_machine.specs.Outcome.{outcome_of}
 use Rattle.sasi_machine.specs.Operands.{CanSelect}
 use Rattle.sasi_cells.specs.Mutations.{state_with_mutation}
-use Rattle.sasi_machine.specs.Prepares.{CreatesTable, DefinesIndex, FlushesTable, HasRows, HasTable, IsAddable, IsApplicable, IsNewTable, IsPrepared, IsPreparedFor, IsQuery, IsSelect, IsStateOf, IsTimeless, Prepares, StatementPrepares, SelectsRows, StepsTo, WritesTo, answer_rows, asked_by}
+use Rattle.sasi_machine.specs.Prepares.{CanBeDone, CreatesTable, DefinesIndex, FlushesTable, HasRows, HasTable, IsAddable, IsApplicable, IsNewTable, IsPrepared, IsPreparedFor, IsQuery, IsSelect, IsStateOf, IsTimeless, Prepares, StatementPrepares, SelectsRows, StepsTo, WritesTo, answer_rows, asked_by}
 use Rattle.sasi_machine.specs.Selections.{PreparesRows}
 use Rattle.sasi_machine.specs.TableRows.{AreStored}
 use Rattle.sasi_machine.specs.Tables.{AreMemtables, IsMachineState, HasMemtableFor, IsWrittenAt, state_of, tables_of, written}
@@ -365,6 +367,30 @@ pub piece_asks : {E : Type 0} (known : Known) (piece : Piece) (statement : State
     → IfOk result (IsPreparedFor known statement reply_old reply) → IfOk result (λ prepared. asks known piece ≡ asked_by prepared)
 piece_asks known piece statement reply_old reply (Ok prepared) says is = ap (parsed_asks known) says ∙ is.now.asked_is
 piece_asks known piece statement reply_old reply (Err e) says is = tt
+
+-- ---- what was prepared can be done
+
+no_items : (defs : List IndexDef) → map index_of defs ≡ [] → defs ≡ []
+no_items [] is = refl
+no_items (def ∷ defs) is = cc
+
+no_indexes : (s : State) (statement : Statement) (t : Table) → CreatesTable s statement t → t.indexes ≡ []
+no_indexes s (CreateTable table columns keys) t makes = no_items t.indexes (ap (λ (d : Definition). d.indexes) makes.1)
+no_indexes s statement t makes = absurd makes
+
+prepared_can : (s : State) (statement : Statement) (reply_old reply : List ℕ) (prepared : Prepared) → IsWellFormed statement → StatementPrepares s statement reply_old reply prepared → CanBeDone s prepared
+prepared_can s statement reply_old reply (Answered outcome) well asks = tt
+prepared_can s statement reply_old reply (Create t) well asks = (makes_next s statement t asks.1, no_indexes s statement t asks.1)
+prepared_can s statement reply_old reply (Define new) well asks = index_there s statement new asks.1
+prepared_can s statement reply_old reply (Writes w) well asks = writes_fit s statement w well asks.1
+prepared_can s statement reply_old reply (Flushes table) well asks = flush_there s statement table asks.1
+prepared_can s statement reply_old reply (Selects rows) well asks = tt
+prepared_can s statement reply_old reply (Traces on) well asks = tt
+
+pub can_be_done : {E : Type 0} (known : Known) (statement : Statement) (reply_old reply : List ℕ) (result : Result Prepared E) → IsWellFormed statement
+    → IfOk result (IsPreparedFor known statement reply_old reply) → IfOk result (λ prepared. (s : State) → IsStateOf known s → CanBeDone s prepared)
+can_be_done known statement reply_old reply (Ok prepared) well asks = λ s is. prepared_can s statement reply_old reply prepared well (asks.now.of_state s is)
+can_be_done known statement reply_old reply (Err e) well asks = tt
 
 -- ---- one more table
 

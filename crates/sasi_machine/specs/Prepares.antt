@@ -158,6 +158,16 @@ pub record IsPreparedFor (known : Known) (statement : Statement) (reply_old repl
   pub now : IsPrepared known statement reply_old reply_new prepared
   pub timeless : IsTimeless prepared → (other : ℕ) → IsPrepared (record known { max_timestamp = other }) statement reply_old reply_new prepared
 
+-- what was prepared can be done in the state
+abbrev pub CanBeDone : State → Prepared → Type 0
+CanBeDone s (Answered outcome) = ⊤
+CanBeDone s (Create t) = IsNewTable s t × (t.indexes ≡ [])
+CanBeDone s (Define new) = IsAddable s new
+CanBeDone s (Writes w) = IsApplicable s w
+CanBeDone s (Flushes table) = HasTable s table
+CanBeDone s (Selects rows) = ⊤
+CanBeDone s (Traces on) = ⊤
+
 -- the statement is built, and isn't a SELECT
 abbrev pub IsChanging : Statement → Type 0
 IsChanging (Query select) = ⊥

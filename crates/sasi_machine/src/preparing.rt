@@ -9,7 +9,7 @@ ghost use Rattle.sasi_model.specs.Refusals.{Known, is_built, read as parsed};
 ghost use Rattle.sasi_model.specs.State.{State};
 ghost use Rattle.sasi_model.specs.WellFormed.{IsWellFormed};
 ghost use Rattle.sasi_machine.specs.Classes.{OnMissing, TablesLack};
-ghost use Rattle.sasi_machine.specs.Prepares.{IsChanging, IsPrepared, IsPreparedFor, IsQuery, IsSelect, IsStateOf, IsTimeless, Prepares, asked_by, known_by};
+ghost use Rattle.sasi_machine.specs.Prepares.{CanBeDone, IsChanging, IsPrepared, IsPreparedFor, IsQuery, IsSelect, IsStateOf, IsTimeless, Prepares, asked_by, known_by};
 ghost use Rattle.sasi_machine.specs.Writes.{IsWriting};
 
 use crate::builder::MutationBuilder;
@@ -82,12 +82,33 @@ fn prepare_statement(
 {
     match statement {
         Statement::Query { select } => prepare_select(builder.alloc, schema, select, kit, reply),
-        other => Ok(prepare_change(builder, schema, other, reply)?),
+        other => Ok(prepare_other(builder, schema, other, reply)?),
     }
 }
 
-// Prepares a statement that isn't a SELECT.
-fn prepare_change(
+/// Prepares a statement that isn't a SELECT for these tables, where this is the largest timestamp of their state. Its reply is appended.
+pub fn prepare_change(
+    alloc: Global,
+    schema: &Schema,
+    max_timestamp: u64,
+    statement: Statement,
+    reply: &mut Reply,
+) -> Result<Prepared, AllocError>
+    requires limit { max_timestamp ≤ time_limit }
+    requires change { IsChanging statement }
+    requires written { IsWellFormed statement }
+    ensures prepares { IfOk result (IsPreparedFor (known_by schema.now max_timestamp) statement reply.old reply.new) }
+    ensures can { IfOk result (λ prepared. (s : State) → IsStateOf (known_by schema.now max_timestamp) s → CanBeDone s prepared) }
+{
+    let builder = MutationBuilder {
+        alloc,
+        max_timestamp,
+    };
+    prepare_other(&builder, schema, statement, reply)
+}
+
+// The same with a builder of its mutation.
+fn prepare_other(
     builder: &MutationBuilder,
     schema: &Schema,
     statement: Statement,

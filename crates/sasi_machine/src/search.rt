@@ -75,8 +75,8 @@ fn finds_term(search: &Search, term: &[u8]) -> bool
     true
 }
 
-// Whether for each of the words one of these terms is as asked.
-fn finds_among(search: &Search, terms: &[Term]) -> bool
+/// Whether for each of the words one of these terms is as asked.
+pub fn finds_among(search: &Search, terms: &[Term]) -> bool
     ensures { result ≡ list_all (λ word. any_holds search.now.op word terms.now) search.now.words }
 {
     let words = search.words.as_slice();

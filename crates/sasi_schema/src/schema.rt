@@ -70,6 +70,14 @@ impl Schema {
         find_table(name, &self.tables)
     }
 
+    /// The tables, in the order of their creation.
+    pub fn tables(&self) -> &[Table]
+        ensures definitions { definitions result.now ≡ self.now.definitions }
+        ensures numbers { map numbers_of result.now ≡ self.now.numbers }
+    {
+        &self.tables
+    }
+
     /// The table that a CREATE TABLE would define, behind the others.
     pub fn prepare_table(
         &self,

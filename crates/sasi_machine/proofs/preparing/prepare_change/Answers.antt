@@ -1,25 +1,6 @@
-use Rattle.std.proofs.Common.{IfOk, subst, sym}
-use Rattle.sasi_types.specs.declared.statement.Statement.{Statement}
-use Rattle.sasi_machine.specs.Prepares.{IsPreparedFor, known_by}
-use Rattle.sasi_machine.proofs.StatementPreparing.{for_any, for_every}
+use Rattle.sasi_machine.specs.Prepares.{known_by}
+use Rattle.sasi_machine.proofs.StatementPreparing.{can_be_done}
 use Rattle.sasi_machine.proofs.preparing.prepare_change.Goals as goal
 
-pub returns-in-CreateTable : goal.returns-in-CreateTable
-returns-in-CreateTable c =
-    subst (λ (statement : Statement). IfOk c.prepare_table.result (IsPreparedFor (known_by c.args.schema.now c.args.builder.now.max_timestamp) statement c.args.reply.now c.prepare_table.new.reply)) (sym c.in-CreateTable.is)
-    (for_any (known_by c.args.schema.now c.args.builder.now.max_timestamp) _ c.args.reply.now c.prepare_table.new.reply c.prepare_table.result c.prepare_table.ensures)
-
-pub returns-in-Flush : goal.returns-in-Flush
-returns-in-Flush c =
-    subst (λ (statement : Statement). IfOk c.prepare_flush.result (IsPreparedFor (known_by c.args.schema.now c.args.builder.now.max_timestamp) statement c.args.reply.now c.prepare_flush.new.reply)) (sym c.in-Flush.is)
-    (for_any (known_by c.args.schema.now c.args.builder.now.max_timestamp) _ c.args.reply.now c.prepare_flush.new.reply c.prepare_flush.result c.prepare_flush.ensures)
-
-pub returns-in-CreateIndex : goal.returns-in-CreateIndex
-returns-in-CreateIndex c =
-    subst (λ (statement : Statement). IfOk c.prepare_index.result (IsPreparedFor (known_by c.args.schema.now c.args.builder.now.max_timestamp) statement c.args.reply.now c.prepare_index.new.reply)) (sym c.in-CreateIndex.is)
-    (for_any (known_by c.args.schema.now c.args.builder.now.max_timestamp) _ c.args.reply.now c.prepare_index.new.reply c.prepare_index.result (rw c.as_ref.ensures.value at (c.prepare_index.ensures c.in-CreateIndex.stepped)))
-
-pub returns-in-Trace : goal.returns-in-Trace
-returns-in-Trace c =
-    subst (λ (statement : Statement). IfOk c.prepare_trace.result (IsPreparedFor (known_by c.args.schema.now c.args.builder.now.max_timestamp) statement c.args.reply.now c.prepare_trace.new.reply)) (sym c.in-Trace.is)
-    (for_every (known_by c.args.schema.now c.args.builder.now.max_timestamp) _ c.args.reply.now c.prepare_trace.new.reply c.prepare_trace.result c.prepare_trace.ensures)
+pub returns-clause-can : goal.returns-clause-can
+returns-clause-can c = can_be_done (known_by c.args.schema.now c.args.max_timestamp) _ c.args.reply.now c.prepare_other.new.reply c.prepare_other.result c.requires.written c.prepare_other.ensures
