@@ -12,6 +12,8 @@ import sys
 import tempfile
 import time
 
+import processes
+
 COUNT = 20000
 # They don't fill a memtable, which is flushed at 65,536 cells: a row has three.
 OPENED = [10000, 20000]
@@ -89,8 +91,7 @@ def measure_opening(program, folder):
 
 
 def main():
-    top = os.path.dirname(os.path.dirname(os.path.abspath(__file__)))
-    program = sys.argv[1] if len(sys.argv) > 1 else os.path.join(top, 'sasi')
+    program = processes.program()
     with tempfile.TemporaryDirectory() as folder:
         measure(program, folder)
         measure_opening(program, folder)

@@ -16,10 +16,10 @@ for each FLUSH, and rows in the order of their keys. All folders stand in memory
 import os
 import shutil
 import statistics
-import subprocess
 import sys
 import tempfile
 
+import processes
 from processes import MEMORY, measured, timed
 from tables import INT, TEXT, Table, write
 
@@ -191,11 +191,7 @@ def measure_select(program, top):
 
 
 def main():
-    top = os.path.dirname(os.path.dirname(os.path.abspath(__file__)))
-    program = sys.argv[1] if len(sys.argv) > 1 else os.path.join(top, 'sasi')
-    # It is built before the first run is measured.
-    subprocess.run([program], stderr=subprocess.DEVNULL)
-    program = os.path.join(top, 'crates/sasi_tool/out/sasi_tool') if len(sys.argv) < 2 else program
+    program = processes.program()
     print('%-46s %8s %9s %9s' % ('', 'seconds', 'peak MiB', 'limit'))
     above = False
     for measure in (check_data_file, measure_flushes, measure_indexes, measure_select):

@@ -12,10 +12,10 @@ the order of their keys. It has no index of words, so there it looks at each row
 """
 import os
 import shutil
-import subprocess
 import sys
 import tempfile
 
+import processes
 from processes import MEMORY, measured
 
 COUNT, ASKED = 100000, 10
@@ -198,13 +198,9 @@ def measure_selects(program, top, folder, db, count, asked):
 
 
 def main():
-    top = os.path.dirname(os.path.dirname(os.path.abspath(__file__)))
-    program = sys.argv[1] if len(sys.argv) > 1 else os.path.join(top, 'sasi')
+    program = processes.program()
     count = int(sys.argv[2]) if len(sys.argv) > 2 else COUNT
     asked = int(sys.argv[3]) if len(sys.argv) > 3 else ASKED
-    # It is built before the first run is measured.
-    subprocess.run([program], stderr=subprocess.DEVNULL)
-    program = os.path.join(top, 'crates/sasi_tool/out/sasi_tool') if len(sys.argv) < 2 else program
     print('%-30s %9s %9s' % ('', 'seconds', 'peak MiB'))
     with tempfile.TemporaryDirectory(dir=MEMORY) as made:
         taken, db = {}, None

@@ -7,10 +7,10 @@ of the row among them. What a row takes is the growth of the peak memory from a 
 holds: it is flushed at 65,536 cells, so these are 60,000.
 """
 import os
-import subprocess
 import sys
 import tempfile
 
+import processes
 from processes import MEMORY, measured
 
 CELLS = 30000
@@ -58,11 +58,7 @@ def memory(program, columns, rows):
 
 
 def main():
-    top = os.path.dirname(os.path.dirname(os.path.abspath(__file__)))
-    program = sys.argv[1] if len(sys.argv) > 1 else os.path.join(top, 'sasi')
-    # It is built before the first run is measured.
-    subprocess.run([program], stderr=subprocess.DEVNULL)
-    program = os.path.join(top, 'crates/sasi_tool/out/sasi_tool') if len(sys.argv) < 2 else program
+    program = processes.program()
     above = []
     print('%-24s %10s %10s' % ('shape', 'bytes/row', 'limit'))
     for name, columns in SHAPES.items():

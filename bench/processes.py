@@ -1,10 +1,20 @@
 """Runs a program and measures it: what the benchmarks share."""
 import os
 import subprocess
+import sys
 import time
 
 # Folders that stand in memory, where a sync costs nothing; durable.py measures a disk.
 MEMORY = '/dev/shm' if os.path.isdir('/dev/shm') else None
+
+
+def program():
+    """The program that is measured: the first word, or else that of this checkout, which is built before."""
+    if len(sys.argv) > 1:
+        return sys.argv[1]
+    top = os.path.dirname(os.path.dirname(os.path.abspath(__file__)))
+    subprocess.run([os.path.join(top, 'build')], check=True)
+    return os.path.join(top, 'crates/sasi_tool/out/sasi_tool')
 
 
 def peak(pid):

@@ -1,36 +1,39 @@
 #!/usr/bin/env python3
 """Asks the built program questions over a folder of 1,000,000 rows, and prints what each costs beside sqlite3.
 
-- By the beginning of a text, an equal text, an equal number, a range of numbers and a word, each of which 10 rows have; by two relations of
-  10 and 100,000 rows; and the first 10 of all rows under a LIMIT.
-- The rows stand in one data file and in ten, each with four index files. A memtable is flushed by itself long before 100,000 rows, so this
+- By the beginning of a text, an equal text, an equal number, a range of numbers and a word, each of which 10 rows have; by what stands within a
+  text and at its end, of 100,000 texts; by two relations of 10 and 100,000 rows; and the first 10 of all rows under a LIMIT.
+- The rows stand in one data file and in ten, each with five index files. A memtable is flushed by itself long before 100,000 rows, so this
   writes the files, as docs/FORMATS.md says. It looks first that it writes the files that a FLUSH of some rows does.
 - Of each: the milliseconds of the processor, and the bytes that are read, as strace counts them where it is installed. What a run takes that
   asks nothing is taken off both. Each row that is given is looked at.
 
 Beside them the same rows stand in sqlite3, where it is installed: rows in the order of their keys, an index for each of ours, and FTS5 for
-words. Each question is asked in a run of its own first, of which the bytes are told, and then again and again in one run, of which the time is.
+words. What stands within a text is looked for there in all rows, and once more by the trigrams of FTS5. Each question is asked in a run of its own first, of which the bytes are told, and then again and again in one run, of which the time is.
 
     queries.py [PROGRAM [ROWS]]
 """
 import os
 import shutil
-import subprocess
 import sys
 import tempfile
 
+import processes
 from processes import MEMORY, measured
-from tables import INT, TEXT, WHOLE, WORDS, Table
+from tables import CONTAINS, INT, PREFIX, TEXT, WHOLE, WORDS, Table
 
 ROWS, FILES, ASKED, TRIES = 1000000, 10, 10, 3
-CREATE = 'CREATE TABLE t (k text PRIMARY KEY, a text, w text, n int, c int);\n'
+CREATE = 'CREATE TABLE t (k text PRIMARY KEY, a text, w text, n int, c int, d text);\n'
 INDEX = "CREATE CUSTOM INDEX ON t (%s) USING 'org.apache.cassandra.index.sasi.SASIIndex'%s;\n"
 STANDARD = " WITH OPTIONS = {'analyzer_class': 'org.apache.cassandra.index.sasi.analyzer.StandardAnalyzer', 'tokenization_normalize_lowercase': 'true'}"
-INDEXES = [INDEX % ('a', ''), INDEX % ('w', STANDARD), INDEX % ('n', ''), INDEX % ('c', '')]
-TABLE = Table('t', [('k', TEXT), ('a', TEXT), ('w', TEXT), ('n', INT), ('c', INT)], [(1, WHOLE, 0), (2, WORDS, 1), (3, 0, 0), (4, 0, 0)])
-SQLITE = ['PRAGMA journal_mode=OFF;\n', 'CREATE TABLE t (k TEXT PRIMARY KEY, a TEXT, w TEXT, n INT, c INT) WITHOUT ROWID;\n', 'BEGIN;\n']
+WITHIN = " WITH OPTIONS = {'mode': 'CONTAINS'}"
+INDEXES = [INDEX % ('a', ''), INDEX % ('w', STANDARD), INDEX % ('n', ''), INDEX % ('c', ''), INDEX % ('d', WITHIN)]
+TABLE = Table('t', [('k', TEXT), ('a', TEXT), ('w', TEXT), ('n', INT), ('c', INT), ('d', TEXT)],
+              [(1, PREFIX, WHOLE, 0), (2, PREFIX, WORDS, 1), (3, PREFIX, 0, 0), (4, PREFIX, 0, 0), (5, CONTAINS, WHOLE, 0)])
+SQLITE = ['PRAGMA journal_mode=OFF;\n', 'CREATE TABLE t (k TEXT PRIMARY KEY, a TEXT, w TEXT, n INT, c INT, d TEXT) WITHOUT ROWID;\n', 'BEGIN;\n']
 SQLITE_END = ['CREATE INDEX ia ON t (a);\n', 'CREATE INDEX i_n ON t (n);\n', 'CREATE INDEX ic ON t (c);\n',
-              'CREATE VIRTUAL TABLE f USING fts5(k UNINDEXED, w);\n', 'INSERT INTO f SELECT k, w FROM t;\n', 'COMMIT;\n', 'ANALYZE;\n']
+              'CREATE VIRTUAL TABLE f USING fts5(k UNINDEXED, w);\n', 'INSERT INTO f SELECT k, w FROM t;\n',
+              "CREATE VIRTUAL TABLE g USING fts5(k UNINDEXED, d, tokenize='trigram case_sensitive 1');\n", 'INSERT INTO g SELECT k, d FROM t;\n', 'COMMIT;\n', 'ANALYZE;\n']
 LIKE = 'PRAGMA case_sensitive_like=1;\n'
 
 
@@ -42,13 +45,13 @@ def key(n):
 
 
 def row(n):
-    """Ten rows have the first digits of a text, a word and a number together, and a tenth of all the last number."""
-    return key(n), n + 1, ('name %07d' % n, 'w%d and v%d' % (n // 10, n % 7), n // 10, n % 10)
+    """Ten rows have the first digits of a text, a word, a number and the last text together, and a tenth of all the last number."""
+    return key(n), n + 1, ('name %07d' % n, 'w%d and v%d' % (n // 10, n % 7), n // 10, n % 10, 'item %06d of them' % (n // 10))
 
 
 def insert(n):
-    k, _, (a, w, number, c) = row(n)
-    return "INSERT INTO t (k, a, w, n, c) VALUES ('%s', '%s', '%s', %d, %d);\n" % (k, a, w, number, c)
+    k, _, (a, w, number, c, d) = row(n)
+    return "INSERT INTO t (k, a, w, n, c, d) VALUES ('%s', '%s', '%s', %d, %d, '%s');\n" % (k, a, w, number, c, d)
 
 
 class Question:
@@ -74,6 +77,9 @@ QUESTIONS = [
     Question('an equal number', 'n = %(ten)d', 't WHERE n = %(ten)d ORDER BY k', tens),
     Question('a range of numbers', 'n >= %(ten)d AND n < %(next)d ALLOW FILTERING', 't WHERE n >= %(ten)d AND n < %(next)d ORDER BY k', tens),
     Question('LIKE a word', "w LIKE 'w%(ten)d'", "f WHERE f MATCH 'w%(ten)d' ORDER BY k", tens),
+    Question('LIKE within a text', "d LIKE '%%m %(ten)06d o%%'", "t WHERE d LIKE '%%m %(ten)06d o%%' ORDER BY k", tens),
+    Question('the same by trigrams', "d LIKE '%%m %(ten)06d o%%'", "g WHERE g MATCH '\"m %(ten)06d o\"' ORDER BY k", tens),
+    Question('LIKE the end of a text', "d LIKE '%%%(ten)06d of them'", "t WHERE d LIKE '%%%(ten)06d of them' ORDER BY k", tens),
     Question('10 rows AND a tenth of all', "n = %(ten)d AND c = 3 ALLOW FILTERING", 't WHERE n = %(ten)d AND c = 3 ORDER BY k', lambda ten: [10 * ten + 3]),
     Question('a tenth of all AND 10 rows', "c = 3 AND n = %(ten)d ALLOW FILTERING", 't WHERE c = 3 AND n = %(ten)d ORDER BY k', lambda ten: [10 * ten + 3]),
     Question('all rows, LIMIT 10', "a LIKE 'name %%' LIMIT 10", "t WHERE a LIKE 'name %%' ORDER BY k LIMIT 10", None),
@@ -175,12 +181,8 @@ def make_sqlite(top, rows):
 
 
 def main():
-    top = os.path.dirname(os.path.dirname(os.path.abspath(__file__)))
-    program = sys.argv[1] if len(sys.argv) > 1 else os.path.join(top, 'sasi')
+    program = processes.program()
     rows = int(sys.argv[2]) if len(sys.argv) > 2 else ROWS
-    # It is built before the first run is measured.
-    subprocess.run([program], stderr=subprocess.DEVNULL)
-    program = os.path.join(top, 'crates/sasi_tool/out/sasi_tool') if len(sys.argv) < 2 else program
     with tempfile.TemporaryDirectory(dir=MEMORY) as made:
         check_files(program, made)
         sides = []

@@ -8,6 +8,7 @@ from itertools import groupby
 
 TEXT, INT = 0, 1
 WHOLE, WORDS = 1, 2
+PREFIX, CONTAINS = 0, 1
 LEAF = 255
 BLOCK = 4096
 
@@ -97,9 +98,9 @@ def blocks_of(entries):
     return blocks
 
 
-def index_file(kind, postings):
-    """An index file of the mode PREFIX, of postings, each a term and a pair, with no term of more than 1,024 bytes."""
-    out = bytearray(b'SASIIDX1' + number(4, 1) + b'\0' + number(1, kind) + number(2, 0))
+def index_file(mode, kind, postings):
+    """An index file of the mode PREFIX or CONTAINS, of postings, each a term and a pair, with no term of more than 1,024 bytes."""
+    out = bytearray(b'SASIIDX1' + number(4, 1) + number(1, mode) + number(1, kind) + number(2, 0))
     entries = []
     for term, group in groupby(sorted(postings), key=lambda posting: posting[0]):
         pairs = [pair for _, pair in group]
@@ -136,7 +137,7 @@ def name_bytes(name):
 
 
 class Table:
-    """The table 1 of a folder: its columns, of which the first is the key, and the indexes of some of them with their rules."""
+    """The table 1 of a folder: its columns, of which the first is the key, and the indexes of some of them: mode, rule, and whether it folds."""
 
     def __init__(self, name, columns, indexes=()):
         self.name, self.columns, self.indexes = name, columns, list(indexes)
@@ -145,9 +146,9 @@ class Table:
         """What lists it, and its indexes in their order."""
         columns = b''.join(name_bytes(name) + number(1, kind) for name, kind in self.columns)
         yield b'\2' + number(4, 1) + name_bytes(self.name) + number(2, len(self.columns)) + columns + number(2, 0) + number(4, 1)
-        for at, (column, rule, fold) in enumerate(self.indexes, 1):
+        for at, (column, mode, rule, fold) in enumerate(self.indexes, 1):
             name = self.name + '_' + self.columns[column][0] + '_idx'
-            yield b'\3' + number(4, at) + number(4, 1) + name_bytes(name) + number(2, column) + bytes((0, rule, fold))
+            yield b'\3' + number(4, at) + number(4, 1) + name_bytes(name) + number(2, column) + bytes((mode, rule, fold))
 
     def manifest(self, files):
         """It lists the table, and data files of these numbers with an index file of each index."""
@@ -163,13 +164,13 @@ class Table:
         kinds = [kind for _, kind in self.columns[1:]]
         content, pairs = data_file((key, time, [stored(kind, value) for kind, value in zip(kinds, values)]) for key, time, values in rows)
         write(os.path.join(folder, 'data-%d' % file), content)
-        for at, (column, rule, _) in enumerate(self.indexes, 1):
+        for at, (column, mode, rule, _) in enumerate(self.indexes, 1):
             kind, postings = self.columns[column][1], []
             for (_, _, values), pair in zip(rows, pairs):
                 value = values[column - 1]
                 texts = sorted(set(value.split())) if rule == WORDS else [value]
                 postings += [(term_of(kind, text), pair) for text in texts]
-            write(os.path.join(folder, 'index-%d-%d-%d' % (file, at, (file - 1) * len(self.indexes) + at)), index_file(kind, postings))
+            write(os.path.join(folder, 'index-%d-%d-%d' % (file, at, (file - 1) * len(self.indexes) + at)), index_file(mode, kind, postings))
 
     def write_folder(self, folder, files):
         """A folder of these data files, each a list of rows."""

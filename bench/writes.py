@@ -9,6 +9,7 @@ import os
 import sys
 import tempfile
 
+import processes
 from processes import MEMORY, measured
 
 COUNTS = [5000, 10000, 20000, 40000]
@@ -76,8 +77,7 @@ def measure(program, write):
 
 
 def main():
-    top = os.path.dirname(os.path.dirname(os.path.abspath(__file__)))
-    program = sys.argv[1] if len(sys.argv) > 1 else os.path.join(top, 'sasi')
+    program = processes.program()
     slow = [write.__name__ for write in (insert, update, delete, flush) if measure(program, write)]
     if slow:
         sys.exit('a doubling took more than %.1f times the time: %s' % (MOST_GROWTH, ', '.join(slow)))
