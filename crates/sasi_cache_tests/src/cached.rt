@@ -57,7 +57,7 @@ fn check_page(
 #[test]
 fn page_is_read_once(rt: HostRuntime) {
     let mut host = host(&rt, rt.alloc());
-    let mut pages = Cached::new(rt.alloc(), 3).expect(rt, "memory");
+    let mut pages = Cached::new(rt.alloc(), 3).expect(&rt, "memory");
     check_page(&rt, &mut host, &mut pages, 1, 1, 1);
     check_page(&rt, &mut host, &mut pages, 1, 1, 1);
     check_page(&rt, &mut host, &mut pages, 1, 0, 2);
@@ -70,7 +70,7 @@ fn page_is_read_once(rt: HostRuntime) {
 #[test]
 fn page_used_longest_ago_goes_first(rt: HostRuntime) {
     let mut host = host(&rt, rt.alloc());
-    let mut pages = Cached::new(rt.alloc(), 2).expect(rt, "memory");
+    let mut pages = Cached::new(rt.alloc(), 2).expect(&rt, "memory");
     check_page(&rt, &mut host, &mut pages, 1, 0, 1);
     check_page(&rt, &mut host, &mut pages, 2, 0, 2);
     check_page(&rt, &mut host, &mut pages, 1, 0, 2);
@@ -84,7 +84,7 @@ fn page_used_longest_ago_goes_first(rt: HostRuntime) {
 #[test]
 fn forgotten_file_is_read_again(rt: HostRuntime) {
     let mut host = host(&rt, rt.alloc());
-    let mut pages = Cached::new(rt.alloc(), 3).expect(rt, "memory");
+    let mut pages = Cached::new(rt.alloc(), 3).expect(&rt, "memory");
     check_page(&rt, &mut host, &mut pages, 1, 0, 1);
     check_page(&rt, &mut host, &mut pages, 2, 0, 2);
     check_page(&rt, &mut host, &mut pages, 1, 1, 3);
@@ -99,7 +99,7 @@ fn forgotten_file_is_read_again(rt: HostRuntime) {
 #[test]
 fn forgetting_leaves_the_order(rt: HostRuntime) {
     let mut host = host(&rt, rt.alloc());
-    let mut pages = Cached::new(rt.alloc(), 3).expect(rt, "memory");
+    let mut pages = Cached::new(rt.alloc(), 3).expect(&rt, "memory");
     check_page(&rt, &mut host, &mut pages, 1, 0, 1);
     check_page(&rt, &mut host, &mut pages, 2, 0, 2);
     check_page(&rt, &mut host, &mut pages, 3, 0, 3);
@@ -115,8 +115,8 @@ fn forgetting_leaves_the_order(rt: HostRuntime) {
 #[test]
 fn failed_read_keeps_nothing(rt: HostRuntime) {
     let mut host = host(&rt, rt.alloc());
-    host.fail_disk(vec![in rt.alloc(); 1].expect(rt, "memory"));
-    let mut pages = Cached::new(rt.alloc(), 2).expect(rt, "memory");
+    host.fail_disk(vec![in rt.alloc(); 1].expect(&rt, "memory"));
+    let mut pages = Cached::new(rt.alloc(), 2).expect(&rt, "memory");
     let failed = read(&rt, &mut host, &mut pages, 1, 0, &mut [0; 4096]);
     assert!(rt; failed == Err(HostFault::Failed));
     check_page(&rt, &mut host, &mut pages, 1, 0, 2);
