@@ -1,0 +1,12 @@
+mod PuttingAll
+mod Counting
+mod TableLists
+mod KeptMaps
+mod DrawnNumbers
+mod StatementMoves
+mod LayoutMoves
+mod PartHits
+mod AnsweredChecks
+mod MovesMade
+mod KeptContents
+mod DefinedContents
