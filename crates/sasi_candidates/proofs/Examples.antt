@@ -24,6 +24,7 @@ use Rattle.sasi_model.specs.Filters.{AllOf, key_asked, leaves, where_of}
 use Rattle.sasi_model.specs.IndexTerms.{any_holds, cell_at, terms_of_cell}
 use Rattle.sasi_model.specs.State.{Index}
 use Rattle.sasi_model.specs.Tokens.{same}
+use Rattle.sasi_sparse.specs.Sparse.{is_rare}
 use Rattle.sasi_postings.specs.Postings.{distinct, is_short}
 use Rattle.sasi_segments.specs.Sorting.{inserted, sort}
 use Rattle.sasi_layout.specs.Layout.{TableParts}
@@ -32,7 +33,7 @@ use Rattle.sasi_candidates.specs.Checks.{given, looked}
 use Rattle.sasi_candidates.specs.Costs.{files_of, is_scanned, pairs_at, reads_all}
 use Rattle.sasi_candidates.specs.Groups.{Group, by_token, candidates_in, groups, is_looked, looks}
 use Rattle.sasi_candidates.specs.LayoutParts.{columns_of}
-use Rattle.sasi_candidates.specs.Parts.{Memory, Disk, Part, hit, hit_in_index, hit_in_memory, is_rare, is_stored, keys_with}
+use Rattle.sasi_candidates.specs.Parts.{Memory, Disk, Part, hit, hit_in_index, hit_in_memory, is_stored, keys_with}
 
 -- ---- LIMIT
 

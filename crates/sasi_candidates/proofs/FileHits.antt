@@ -1,5 +1,5 @@
 -- For callers: a search of the index file beside a data file gives exactly the hits of the file.
-use Rattle.std.proofs.Common.{◌≡◌, ◌≢◌, ℕ, ◌+◌, ◌≤◌, ◌<◌, Bool, true, false, cond, ◌&&◌, ◌||◌, not, is_some, List, [], ◌∷◌, length, map, Option, None, Some, refl, sym, ap, ap₂, subst, ◌∙◌, arith, unwrap_or}
+use Rattle.std.proofs.Common.{◌≡◌, ◌≢◌, ℕ, suc, ◌+◌, ◌≤◌, ◌<◌, Bool, true, false, cond, ◌&&◌, ◌||◌, not, is_some, List, [], ◌∷◌, length, map, Option, None, Some, refl, sym, ap, ap₂, subst, ◌∙◌, arith, unwrap_or}
 use Rattle.std.proofs.lemmas.Cmp.{tied_itself}
 use Rattle.std.proofs.lemmas.Bool.Decides.{nat_tests}
 use Rattle.std.specs.FinMap as map_
@@ -12,8 +12,6 @@ use Rattle.sasi_types.specs.declared.cell.Cell.{Cell}
 use Rattle.sasi_types.specs.declared.column.ColumnType.{ColumnType}
 use Rattle.sasi_types.specs.declared.column.ColumnType.TheVariants as types
 use Rattle.sasi_types.specs.declared.decorated_key.DecoratedKey.{DecoratedKey}
-use Rattle.sasi_types.specs.declared.mode.Mode.{Mode}
-use Rattle.sasi_types.specs.declared.mode.Mode.TheVariants.{Prefix, Contains, Sparse}
 use Rattle.sasi_types.specs.declared.partitioner.Partitioner.{Partitioner}
 use Rattle.sasi_types.specs.declared.rule.Rule.{Rule}
 use Rattle.sasi_types.specs.declared.tree.Pair.{Pair}
@@ -34,18 +32,21 @@ use Rattle.sasi_model.specs.IndexTerms.{terms_at, terms_of, terms_of_cell, terms
 use Rattle.sasi_model.specs.Conditions.{Search}
 use Rattle.sasi_model.specs.State.{Definition, Index, decorated}
 use Rattle.sasi_model.specs.Stored.{IsBodyOf, IsListed}
+use Rattle.sasi_model.specs.Tokens.{same}
+use Rattle.sasi_memtable.proofs.Ordered.{entries-from_ordered}
 use Rattle.sasi_datawrite.specs.Files.{IsDataFile}
 use Rattle.sasi_datawrite.specs.Format.{Content, decorated_key, header, pairs_from, partition_bytes}
 use Rattle.sasi_datawrite.proofs.Laws.{partition_length}
 use Rattle.sasi_indexread.specs.Asked.{asked_lists, is_asked}
 use Rattle.sasi_indexread.proofs.RangeLaws.{asked_holds}
 use Rattle.sasi_postings.specs.IndexFiles.{StandsForIndex}
-use Rattle.sasi_postings.specs.Postings.{is_short, paired, postings_at}
+use Rattle.sasi_sparse.specs.Sparse.{is_rare}
+use Rattle.sasi_postings.specs.Postings.{is_kept, is_short, paired, postings_at}
 use Rattle.sasi_layout.specs.Shape.{map_of}
 use Rattle.sasi_layout.proofs.Bodies.{each_of}
-use Rattle.sasi_candidates.specs.Parts.{hit_in_index, is_rare, is_stored, keys_with, posted, spilled}
+use Rattle.sasi_candidates.specs.Parts.{hit_in_index, is_stored, posted, spilled}
 use Rattle.sasi_candidates.specs.Searches.{CanAsk, any_pair, is_asked_pair, keyed, same_pair, word_gives}
-use Rattle.sasi_candidates.proofs.ListTests.{all_filtered, same_any}
+use Rattle.sasi_postings.proofs.ListTests.{all_filtered, same_any}
 use Rattle.sasi_candidates.proofs.PairLists.{pair_itself}
 use Rattle.sasi_candidates.proofs.PostingTests.{found, items_found, partition_found}
 
@@ -92,24 +93,14 @@ cell_asked kind op word rule (Some cell) can is = by cell.value (λ value has. i
 
 -- ---- what is stored
 
-module _ (index : Index) (m : Partitions) (built : index.mode ≢ Sparse) where
-  any_number : (mode : Mode) (b : Bool) (keys : ℕ) → mode ≢ Sparse → b ≡ (b && is_rare mode keys)
-  any_number Prefix true keys isnt = refl
-  any_number Prefix false keys isnt = refl
-  any_number Contains true keys isnt = refl
-  any_number Contains false keys isnt = refl
-  any_number Sparse b keys isnt = absurd (isnt refl)
-
-  -- where the mode isn't SPARSE, a term is stored that is short
-  pub short_stored : (term : Bytes) → is_short term ≡ is_stored index m term
-  short_stored term = any_number index.mode (is_short term) (keys_with index m term) built
-
+-- where those terms are kept that the map tells to be stored
+module _ (index : Index) (m : Partitions) (kept : Bytes → Bool) (as_stored : (term : Bytes) → kept term ≡ is_stored index m term) where
   -- what the postings of a partition say is what the map says of its key
   partition_gives : (kind : ColumnType) (op : Op) (word : Bytes) (q : DecoratedKey) → AllByRecursion (AsHeld kind op word) (terms_at index.rule index.column m q)
-      → (list_any (λ term. not (is_short term)) (terms_at index.rule index.column m q) || list_any (is_asked kind op word) (filter is_short (terms_at index.rule index.column m q))) ≡ word_gives index op m word q
+      → (list_any (λ term. not (kept term)) (terms_at index.rule index.column m q) || list_any (is_asked kind op word) (filter kept (terms_at index.rule index.column m q))) ≡ word_gives index op m word q
   partition_gives kind op word q all =
       let of_key = terms_at index.rule index.column m q in
-      ap (λ (stored : Bytes → Bool). list_any (λ term. not (stored term)) of_key || list_any (is_asked kind op word) (filter stored of_key)) (λ i term. short_stored term i)
+      ap (λ (stored : Bytes → Bool). list_any (λ term. not (stored term)) of_key || list_any (is_asked kind op word) (filter stored of_key)) (λ i term. as_stored term i)
       ∙ ap (λ b. spilled index m q || b) (same_any (is_asked kind op word) (λ term. holds op term word) (filter (is_stored index m) of_key) (all_filtered (AsHeld kind op word) (is_stored index m) of_key all))
 
 -- ---- the keys of a content
@@ -145,9 +136,39 @@ module _ (p : Partitioner) where
   all_in es [] all = tt
   all_in es (one ∷ content) all = (map_.get-from_entries decorated_total es (decorated_key p one) ∙ all.0, all_in es content all.1)
 
+-- ---- what is stored, by the map of a content
+
+keys_are : (p : Partitioner) (content : Content) → map (decorated_key p) content ≡ map (λ (e : DecoratedKey × Partition). e.0) (entries_of p content)
+keys_are p [] = refl
+keys_are p (one ∷ content) = ap (λ (l : List DecoratedKey). decorated p one.0 ∷ l) (keys_are p content)
+
+-- the map's entries are those of the content, in order
+pub content_entries : (p : Partitioner) (content : Content) → IsStrictlySortedBy decorated_cmp (map (decorated_key p) content) → map_.entries (map_of p content) ≡ entries_of p content
+content_entries p content rises = entries-from_ordered (entries_of p content) (subst (IsStrictlySortedBy decorated_cmp) (keys_are p content) rises)
+
+module _ (p : Partitioner) (index : Index) where
+  abbrev has : Bytes → Partition → Bool
+  has term part = list_any (same term) (terms_of_cell index.rule (map_.get part.cells index.column))
+
+  entries_with : (term : Bytes) (content : Content) → length (filter (λ (e : DecoratedKey × Partition). has term e.1) (entries_of p content)) ≡ length (filter (λ (one : Bytes × Partition). has term one.1) content)
+  entries_with term [] = refl
+  entries_with term (one ∷ content) = by (has term one.1) (entries_with term content)
+    where
+      by : (b : Bool) → length (filter (λ (e : DecoratedKey × Partition). has term e.1) (entries_of p content)) ≡ length (filter (λ (o : Bytes × Partition). has term o.1) content)
+          → length (cond b ((decorated p one.0, one.1) ∷ filter (λ (e : DecoratedKey × Partition). has term e.1) (entries_of p content)) (filter (λ (e : DecoratedKey × Partition). has term e.1) (entries_of p content)))
+          ≡ length (cond b (one ∷ filter (λ (o : Bytes × Partition). has term o.1) content) (filter (λ (o : Bytes × Partition). has term o.1) content))
+      by true rest = ap suc rest
+      by false rest = rest
+
+  -- **A term is kept in the index file of a content where it is stored by the map of the content.**
+  pub kept_stored : (content : Content) → IsStrictlySortedBy decorated_cmp (map (decorated_key p) content) → (term : Bytes) → is_kept index.mode index.column index.rule content term ≡ is_stored index (map_of p content) term
+  kept_stored content rises term =
+      ap (λ n. is_short term && is_rare index.mode n)
+      (sym (ap (λ (es : List (DecoratedKey × Partition)). length (filter (λ (e : DecoratedKey × Partition). has term e.1) es)) (content_entries p content rises) ∙ entries_with term content))
+
 -- ---- one partition
 
-module _ (p : Partitioner) (d : Definition) (index : Index) (m : Partitions) (built : index.mode ≢ Sparse) (regular : 1 ≤ index.column) (op : Op) (can : CanAsk (kind_of d index.column) op) (word : Bytes) (test : Pair → Bool) where
+module _ (p : Partitioner) (d : Definition) (index : Index) (m : Partitions) (kept : Bytes → Bool) (as_stored : (term : Bytes) → kept term ≡ is_stored index m term) (regular : 1 ≤ index.column) (op : Op) (can : CanAsk (kind_of d index.column) op) (word : Bytes) (test : Pair → Bool) where
   abbrev kind : ColumnType
   kind = kind_of d index.column
 
@@ -157,17 +178,17 @@ module _ (p : Partitioner) (d : Definition) (index : Index) (m : Partitions) (bu
 
   -- its postings say what the map says of its key
   abbrev IsGiven : Bytes × Partition → Type 0
-  IsGiven one = (pair : Pair) → list_any (found kind op word test) (postings_at index.column index.rule pair one.1) ≡ (test pair && word_gives index op m word (decorated_key p one))
+  IsGiven one = (pair : Pair) → list_any (found kind op word test) (postings_at kept index.column index.rule pair one.1) ≡ (test pair && word_gives index op m word (decorated_key p one))
 
   one_given : (one : Bytes × Partition) → IsBodyOf (types_of d) one.0 one.1 → HasIn p m one → IsGiven one
   one_given one body there pair =
       let q = decorated_key p one in
       let cell = map_.get one.1.cells index.column in
       let same : terms_of_cell index.rule cell ≡ terms_at index.rule index.column m q = sym (ap (λ (o : Option Partition). terms_of_cell index.rule (option_and_then (λ (part : Partition). map_.get part.cells index.column) o)) there) in
-      partition_found kind op word test pair (terms_of_cell index.rule cell)
-      ∙ ap (λ (terms : List Bytes). test pair && (list_any (λ term. not (is_short term)) terms || list_any (is_asked kind op word) (filter is_short terms))) same
+      partition_found kind op word test kept pair (terms_of_cell index.rule cell)
+      ∙ ap (λ (terms : List Bytes). test pair && (list_any (λ term. not (kept term)) terms || list_any (is_asked kind op word) (filter kept terms))) same
       ∙ ap (λ b. test pair && b)
-      (partition_gives index m built kind op word q (subst (λ (terms : List Bytes). AllByRecursion (AsHeld kind op word) terms) same (cell_asked kind op word index.rule cell can (of_kind one.0 one.1 body))))
+      (partition_gives index m kept as_stored kind op word q (subst (λ (terms : List Bytes). AllByRecursion (AsHeld kind op word) terms) same (cell_asked kind op word index.rule cell can (of_kind one.0 one.1 body))))
 
   all_given : (content : Content) → AllByRecursion (λ one. IsBodyOf (types_of d) one.0 one.1) content → AllByRecursion (HasIn p m) content → AllByRecursion IsGiven content
   all_given [] bodies there = tt
@@ -175,7 +196,7 @@ module _ (p : Partitioner) (d : Definition) (index : Index) (m : Partitions) (bu
 
   -- and so of all of them, with the pairs that they have from this offset on
   on_keys : (at : ℕ) (content : Content) → AllByRecursion IsGiven content
-      → list_any (λ (one : Pair × Partition). list_any (found kind op word test) (postings_at index.column index.rule one.0 one.1)) (zip (pairs_from p at content) (map (λ one. one.1) content))
+      → list_any (λ (one : Pair × Partition). list_any (found kind op word test) (postings_at kept index.column index.rule one.0 one.1)) (zip (pairs_from p at content) (map (λ one. one.1) content))
       ≡ list_any (λ (one : Pair × DecoratedKey). test one.0 && word_gives index op m word one.1) (zip (pairs_from p at content) (map (decorated_key p) content))
   on_keys at [] all = refl
   on_keys at (one ∷ content) all =
@@ -261,16 +282,19 @@ module _ (p : Partitioner) (d : Definition) (index : Index) (bytes index_bytes :
   abbrev m : Partitions
   m = map_of p content
 
-  built : index.mode ≢ Sparse
-  built sparse = stands.file_is.content_is.built (stands.mode_is ∙ sparse)
+  abbrev kept : Bytes → Bool
+  kept = is_kept index.mode index.column index.rule content
+
+  as_stored : (term : Bytes) → kept term ≡ is_stored index m term
+  as_stored term = kept_stored p index content file.content_is.rising term
 
   -- **A pair that a search gives is that of a key which is in the spill or posted under a stored term as asked; and each such pair is given.** So it is said for every test of pairs.
   pub search_gives : (op : Op) → CanAsk (kind_of d index.column) op → (word : Bytes) (test : Pair → Bool)
       → any_pair test (asked_lists stands.content op word) ≡ list_any (λ (e : Pair × DecoratedKey). test e.0 && word_gives index op m word e.1) (keyed p content)
   search_gives op can word test =
-      items_found (kind_of d index.column) op word test index.mode (λ (one : Pair × Partition). postings_at index.column index.rule one.0 one.1) (paired p content) index_bytes stands
-      ∙ on_keys p d index m built regular op can word test (length header) content
-      (all_given p d index m built regular op can word test content file.typed (all_in p (entries_of p content) content (entries_found p content file.content_is.rising)))
+      items_found (kind_of d index.column) op word test index.mode (λ (one : Pair × Partition). postings_at kept index.column index.rule one.0 one.1) (paired p content) index_bytes stands
+      ∙ on_keys p d index m kept as_stored regular op can word test (length header) content
+      (all_given p d index m kept as_stored regular op can word test content file.typed (all_in p (entries_of p content) content (entries_found p content file.content_is.rising)))
 
   of_word : (op : Op) → CanAsk (kind_of d index.column) op → (word : Bytes) (e : Pair × DecoratedKey) → IsOwn p (keyed p content) e → is_asked_pair stands.content op e.0 word ≡ word_gives index op m word e.1
   of_word op can word e own = search_gives op can word (same_pair e.0) ∙ own (word_gives index op m word)

@@ -3,7 +3,6 @@ pub mod Hits
 pub mod Answers
 pub mod ReadingLaws
 pub mod PairLists
-mod ListTests
 mod PostingTests
 pub mod FileHits
 pub mod FileIndexes

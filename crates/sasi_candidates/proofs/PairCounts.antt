@@ -1,9 +1,8 @@
 -- For callers: how many pairs a search of an index file goes through, by the map of the data file beside it.
-use Rattle.std.proofs.Common.{◌≡◌, ◌≢◌, ℕ, suc, ◌+◌, ◌*◌, ◌≤◌, Bool, true, false, cond, ◌||◌, not, if◌then◌else◌, List, [], ◌∷◌, length, map, Option, refl, sym, ap, ap₂, subst, ◌∙◌, arith}
+use Rattle.std.proofs.Common.{◌≡◌, ℕ, suc, ◌+◌, ◌*◌, ◌≤◌, Bool, true, false, cond, ◌||◌, not, if◌then◌else◌, List, [], ◌∷◌, length, map, Option, refl, sym, ap, ap₂, subst, ◌∙◌, arith}
 use Rattle.std.proofs.lemmas.List.Sums.{sum_by-append, sum_by-cons}
 use Rattle.std.specs.FinMap as map_
 use Rattle.std.specs.List.{AllByRecursion, dedup, dedup_from, filter, flat_map, list_any, sum_by, zip}
-use Rattle.std.specs.List.Sorted.{IsStrictlySortedBy}
 use Rattle.std.specs.Option.{option_and_then}
 use Rattle.std.specs.Ordering.{is_gt}
 use Rattle.std.specs.declared.cmp.Ordering.{Ordering}
@@ -12,10 +11,8 @@ use Rattle.sasi_types.specs.declared.decorated_key.DecoratedKey.{DecoratedKey}
 use Rattle.sasi_types.specs.declared.list_kind.ListKind.{ListKind}
 use Rattle.sasi_types.specs.declared.list_kind.ListKind.TheVariants.{Stored, Spill}
 use Rattle.sasi_types.specs.declared.mode.Mode.{Mode}
-use Rattle.sasi_types.specs.declared.mode.Mode.TheVariants.{Sparse}
 use Rattle.sasi_types.specs.declared.partitioner.Partitioner.{Partitioner}
 use Rattle.sasi_types.specs.declared.tree.Pair.{Pair}
-use Rattle.sasi_types.specs.DecoratedKey.{decorated_cmp}
 use Rattle.sasi_types.specs.Term.{term_cmp, term_eq}
 use Rattle.sasi_host.specs.Names.{Bytes}
 use Rattle.sasi_terms.specs.declared.op.Op.{Op}
@@ -24,7 +21,6 @@ use Rattle.sasi_model.specs.Cells.{Partition}
 use Rattle.sasi_model.specs.IndexTerms.{terms_at, terms_of_cell}
 use Rattle.sasi_model.specs.State.{Definition, Index, decorated}
 use Rattle.sasi_model.specs.Stored.{IsBodyOf}
-use Rattle.sasi_memtable.proofs.Ordered.{entries-from_ordered}
 use Rattle.sasi_segments.specs.declared.posting.Posting.{Posting}
 use Rattle.sasi_segments.specs.Postings.{in_order, posting_cmp, posting_of}
 use Rattle.sasi_segments.specs.Sorting.{inserted, sort}
@@ -36,15 +32,14 @@ use Rattle.sasi_indexwrite.specs.Files.{IsIndexOf}
 use Rattle.sasi_indexread.specs.Asked.{is_asked, is_run}
 use Rattle.sasi_indexread.specs.Costs.{pairs_if, pairs_read}
 use Rattle.sasi_postings.specs.IndexFiles.{StandsForIndex}
-use Rattle.sasi_postings.specs.Postings.{distinct, is_short, paired, postings_at, postings_of, stored_postings}
+use Rattle.sasi_postings.specs.Postings.{distinct, is_kept, paired, postings_at, postings_of, stored_postings}
 use Rattle.sasi_postings.specs.Postings as of_terms
 use Rattle.sasi_layout.specs.Shape.{map_of}
 use Rattle.sasi_candidates.specs.Costs.{is_scanned, pairs_at, search_cost}
 use Rattle.sasi_candidates.specs.Parts.{is_stored, spilled}
 use Rattle.sasi_candidates.specs.Searches.{CanAsk}
-use Rattle.sasi_candidates.proofs.FileHits.{AsHeld, HasIn, all_in, cell_asked, entries_found, entries_of, of_kind, short_stored}
-use Rattle.sasi_candidates.proofs.ListTests.{all_filtered}
-use Rattle.sasi_candidates.proofs.PostingTests.{is_long}
+use Rattle.sasi_candidates.proofs.FileHits.{AsHeld, HasIn, all_in, cell_asked, content_entries, entries_found, entries_of, kept_stored, of_kind}
+use Rattle.sasi_postings.proofs.ListTests.{all_filtered}
 
 -- ---- sums over lists
 
@@ -170,14 +165,14 @@ module _ (kind : ColumnType) (op : Op) (word : Bytes) where
       by true e = omega (arith, e)
       by false e = omega (arith, e)
 
-  long_sum : (long : Bool) (pair : Pair) → sum_by weight (if long then posting_of [] Spill pair ∷ [] else []) ≡ (if long then 1 else 0)
-  long_sum true pair = omega (arith, sum_by-cons weight (posting_of [] Spill pair) [])
-  long_sum false pair = refl
+  spilled_sum : (spills : Bool) (pair : Pair) → sum_by weight (if spills then posting_of [] Spill pair ∷ [] else []) ≡ (if spills then 1 else 0)
+  spilled_sum true pair = omega (arith, sum_by-cons weight (posting_of [] Spill pair) [])
+  spilled_sum false pair = refl
 
-  partition_sum : (pair : Pair) (terms : List Bytes) → sum_by weight (postings_of pair terms) ≡ length (filter scans (distinct (filter is_short terms))) + (if list_any is_long terms then 1 else 0)
-  partition_sum pair terms =
-      sum_by-append weight (stored_postings pair terms) (of_terms.spill_postings pair terms)
-      ∙ ap₂ (λ a b. a + b) (stored_sum pair (distinct (filter is_short terms))) (long_sum (list_any is_long terms) pair)
+  partition_sum : (kept : Bytes → Bool) (pair : Pair) (terms : List Bytes) → sum_by weight (postings_of kept pair terms) ≡ length (filter scans (distinct (filter kept terms))) + (if list_any (λ term. not (kept term)) terms then 1 else 0)
+  partition_sum kept pair terms =
+      sum_by-append weight (stored_postings kept pair terms) (of_terms.spill_postings kept pair terms)
+      ∙ ap₂ (λ a b. a + b) (stored_sum pair (distinct (filter kept terms))) (spilled_sum (list_any (λ term. not (kept term)) terms) pair)
 
   -- in the file that was written of the items' postings
   items_sum : {A : Type 0} (mode : Mode) (postings : A → List Posting) (items : List A) (bytes : Bytes) (is : IsIndexOf mode kind (in_order (flat_map postings items)) bytes)
@@ -191,73 +186,72 @@ module _ (kind : ColumnType) (op : Op) (word : Bytes) where
 
 -- ---- by the map
 
-module _ (p : Partitioner) (d : Definition) (index : Index) (m : Partitions) (built : index.mode ≢ Sparse) (regular : 1 ≤ index.column) (op : Op) (can : CanAsk (kind_of d index.column) op) (word : Bytes) where
+module _ (p : Partitioner) (d : Definition) (index : Index) (m : Partitions) (kept : Bytes → Bool) (as_stored : (term : Bytes) → kept term ≡ is_stored index m term) (regular : 1 ≤ index.column) (op : Op) (can : CanAsk (kind_of d index.column) op) (word : Bytes) where
   abbrev own_kind : ColumnType
   own_kind = kind_of d index.column
 
   key_pairs_sum : (q : DecoratedKey) → AllByRecursion (AsHeld own_kind op word) (terms_at index.rule index.column m q)
-      → length (filter (scans own_kind op word) (distinct (filter is_short (terms_at index.rule index.column m q)))) + (if list_any is_long (terms_at index.rule index.column m q) then 1 else 0) ≡ pairs_at index op word m q
+      → length (filter (scans own_kind op word) (distinct (filter kept (terms_at index.rule index.column m q)))) + (if list_any (λ term. not (kept term)) (terms_at index.rule index.column m q) then 1 else 0) ≡ pairs_at index op word m q
   key_pairs_sum q all =
       let of_key = terms_at index.rule index.column m q in
       let stored = filter (is_stored index m) of_key in
       let held : AllByRecursion (λ (term : Bytes). scans own_kind op word term ≡ is_scanned op word term) stored =
       all_turned (AsHeld own_kind op word) (λ term. scans own_kind op word term ≡ is_scanned op word term) (λ term e. ap (λ b. b || not (is_run op)) e) stored
       (all_filtered (AsHeld own_kind op word) (is_stored index m) of_key all) in
-      ap (λ (short : Bytes → Bool). length (filter (scans own_kind op word) (distinct (filter short of_key))) + (if list_any (λ term. not (short term)) of_key then 1 else 0)) (λ i term. short_stored index m built term i)
+      ap (λ (those : Bytes → Bool). length (filter (scans own_kind op word) (distinct (filter those of_key))) + (if list_any (λ term. not (those term)) of_key then 1 else 0)) (λ i term. as_stored term i)
       ∙ ap (λ n. n + (if spilled index m q then 1 else 0))
       (same_length (scans own_kind op word) (is_scanned op word) (distinct stored)
       (all_once (λ term. scans own_kind op word term ≡ is_scanned op word term) term_eq (sort term_cmp stored) (all_sorted (λ term. scans own_kind op word term ≡ is_scanned op word term) term_cmp stored held)))
 
   -- the postings of a partition count as the map says of its key
   abbrev IsCounted : Bytes × Partition → Type 0
-  IsCounted one = (pair : Pair) → sum_by (weight own_kind op word) (postings_at index.column index.rule pair one.1) ≡ pairs_at index op word m (decorated_key p one)
+  IsCounted one = (pair : Pair) → sum_by (weight own_kind op word) (postings_at kept index.column index.rule pair one.1) ≡ pairs_at index op word m (decorated_key p one)
 
   one_counted : (one : Bytes × Partition) → IsBodyOf (types_of d) one.0 one.1 → HasIn p m one → IsCounted one
   one_counted one body there pair =
       let q = decorated_key p one in
       let cell = map_.get one.1.cells index.column in
       let same : terms_of_cell index.rule cell ≡ terms_at index.rule index.column m q = sym (ap (λ (o : Option Partition). terms_of_cell index.rule (option_and_then (λ (part : Partition). map_.get part.cells index.column) o)) there) in
-      partition_sum own_kind op word pair (terms_of_cell index.rule cell)
-      ∙ ap (λ (terms : List Bytes). length (filter (scans own_kind op word) (distinct (filter is_short terms))) + (if list_any is_long terms then 1 else 0)) same
+      partition_sum own_kind op word kept pair (terms_of_cell index.rule cell)
+      ∙ ap (λ (terms : List Bytes). length (filter (scans own_kind op word) (distinct (filter kept terms))) + (if list_any (λ term. not (kept term)) terms then 1 else 0)) same
       ∙ key_pairs_sum q
       (subst (λ (terms : List Bytes). AllByRecursion (AsHeld own_kind op word) terms) same
-      (cell_asked own_kind op word index.rule cell can (of_kind p d index m built regular op can word (λ _. true) one.0 one.1 body)))
+      (cell_asked own_kind op word index.rule cell can (of_kind p d index m kept as_stored regular op can word (λ _. true) one.0 one.1 body)))
 
   all_counted : (content : Content) → AllByRecursion (λ one. IsBodyOf (types_of d) one.0 one.1) content → AllByRecursion (HasIn p m) content → AllByRecursion IsCounted content
   all_counted [] bodies there = tt
   all_counted (one ∷ content) bodies there = (one_counted one bodies.0 there.0, all_counted content bodies.1 there.1)
 
   on_entries : (at : ℕ) (content : Content) → AllByRecursion IsCounted content
-      → sum_by (λ (one : Pair × Partition). sum_by (weight own_kind op word) (postings_at index.column index.rule one.0 one.1)) (zip (pairs_from p at content) (map (λ one. one.1) content))
+      → sum_by (λ (one : Pair × Partition). sum_by (weight own_kind op word) (postings_at kept index.column index.rule one.0 one.1)) (zip (pairs_from p at content) (map (λ one. one.1) content))
       ≡ sum_by (λ (e : DecoratedKey × Partition). pairs_at index op word m e.0) (entries_of p content)
   on_entries at [] all = refl
   on_entries at (one ∷ content) all =
       let pair : Pair = record { token = (decorated_key p one).token; place = at } in
       let next = at + length (partition_bytes one.0 one.1) in
-      sum_by-cons (λ (o : Pair × Partition). sum_by (weight own_kind op word) (postings_at index.column index.rule o.0 o.1)) (pair, one.1) (zip (pairs_from p next content) (map (λ o. o.1) content))
+      sum_by-cons (λ (o : Pair × Partition). sum_by (weight own_kind op word) (postings_at kept index.column index.rule o.0 o.1)) (pair, one.1) (zip (pairs_from p next content) (map (λ o. o.1) content))
       ∙ ap₂ (λ a b. a + b) (all.0 pair) (on_entries next content all.1)
       ∙ sym (sum_by-cons (λ (e : DecoratedKey × Partition). pairs_at index op word m e.0) (decorated p one.0, one.1) (entries_of p content))
 
 -- ---- the file
 
-keys_are : (p : Partitioner) (content : Content) → map (decorated_key p) content ≡ map (λ (e : DecoratedKey × Partition). e.0) (entries_of p content)
-keys_are p [] = refl
-keys_are p (one ∷ content) = ap (λ (l : List DecoratedKey). decorated p one.0 ∷ l) (keys_are p content)
-
 module _ (p : Partitioner) (d : Definition) (index : Index) (bytes index_bytes : Bytes) (content : Content) (file : IsDataFile p (types_of d) bytes content) (stands : StandsForIndex p d index content index_bytes) (regular : 1 ≤ index.column) where
-  not_sparse : index.mode ≢ Sparse
-  not_sparse sparse = stands.file_is.content_is.built (stands.mode_is ∙ sparse)
+  abbrev kept : Bytes → Bool
+  kept = is_kept index.mode index.column index.rule content
+
+  as_stored : (term : Bytes) → kept term ≡ is_stored index (map_of p content) term
+  as_stored term = kept_stored p index content file.content_is.rising term
 
   -- **The pairs that a search of a word goes through, with the spill, are those that the map tells.**
   pub file_pairs : (op : Op) → CanAsk (kind_of d index.column) op → (word : Bytes)
       → pairs_read stands.content op word + length stands.content.spill ≡ sum_by (λ (e : DecoratedKey × Partition). pairs_at index op word (map_of p content) e.0) (map_.entries (map_of p content))
   file_pairs op can word =
       let m = map_of p content in
-      items_sum (kind_of d index.column) op word index.mode (λ (one : Pair × Partition). postings_at index.column index.rule one.0 one.1) (paired p content) index_bytes stands
-      ∙ on_entries p d index m not_sparse regular op can word (length header) content
-      (all_counted p d index m not_sparse regular op can word content file.typed (all_in p (entries_of p content) content (entries_found p content file.content_is.rising)))
+      items_sum (kind_of d index.column) op word index.mode (λ (one : Pair × Partition). postings_at kept index.column index.rule one.0 one.1) (paired p content) index_bytes stands
+      ∙ on_entries p d index m kept as_stored regular op can word (length header) content
+      (all_counted p d index m kept as_stored regular op can word content file.typed (all_in p (entries_of p content) content (entries_found p content file.content_is.rising)))
       ∙ sym (ap (sum_by (λ (e : DecoratedKey × Partition). pairs_at index op word m e.0))
-      (entries-from_ordered (entries_of p content) (subst (IsStrictlySortedBy decorated_cmp) (keys_are p content) file.content_is.rising)))
+      (content_entries p content file.content_is.rising))
 
   -- **So the cost of a word, by the map, is 32 and 4 for each of these pairs.**
   pub word_cost : (op : Op) → CanAsk (kind_of d index.column) op → (word : Bytes) → search_cost index op (map_of p content) word ≡ 32 + 4 * (pairs_read stands.content op word + length stands.content.spill)

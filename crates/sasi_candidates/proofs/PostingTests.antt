@@ -1,35 +1,30 @@
 -- What a search of an index file gives, by the postings that the file was written of.
 use Rattle.std.proofs.Common.{◌≡◌, Bool, true, false, cond, ◌&&◌, ◌||◌, not, if◌then◌else◌, List, [], ◌∷◌, map, refl, sym, ap, ◌∙◌}
 use Rattle.std.proofs.lemmas.List.Folds.{list_any-append}
-use Rattle.std.specs.Cmp.Lexicographic.{bytes_decides}
 use Rattle.std.specs.List.{filter, flat_map, list_any}
 use Rattle.sasi_types.specs.declared.column.ColumnType.{ColumnType}
 use Rattle.sasi_types.specs.declared.list_kind.ListKind.{ListKind}
 use Rattle.sasi_types.specs.declared.list_kind.ListKind.TheVariants.{Stored, Spill}
 use Rattle.sasi_types.specs.declared.mode.Mode.{Mode}
 use Rattle.sasi_types.specs.declared.tree.Pair.{Pair}
-use Rattle.sasi_types.specs.Term.{term_cmp, term_eq}
 use Rattle.sasi_host.specs.Names.{Bytes}
 use Rattle.sasi_terms.specs.declared.op.Op.{Op}
 use Rattle.sasi_segments.specs.declared.posting.Posting.{Posting}
 use Rattle.sasi_segments.specs.Postings.{in_order, posting_cmp, posting_of}
-use Rattle.sasi_segments.specs.Sorting.{sort}
-use Rattle.sasi_indexwrite.specs.Content.{IndexContent, TermPairs, spill_postings, term_postings}
+use Rattle.sasi_indexwrite.specs.Content.{TermPairs, spill_postings, term_postings}
 use Rattle.sasi_indexwrite.specs.Content as file
 use Rattle.sasi_indexwrite.specs.Files.{IsIndexOf}
 use Rattle.sasi_indexread.specs.Asked.{asked_lists, is_asked}
-use Rattle.sasi_postings.specs.Postings.{distinct, is_short, postings_of, stored_postings}
+use Rattle.sasi_postings.specs.Postings.{distinct, postings_of, stored_postings}
 use Rattle.sasi_postings.specs.Postings as of_terms
 use Rattle.sasi_candidates.specs.Searches.{any_pair}
-use Rattle.sasi_candidates.proofs.ListTests.{flat_any, once_any, sorted_any}
+use Rattle.sasi_postings.proofs.Counts.{distinct_any}
+use Rattle.sasi_postings.proofs.ListTests.{flat_any, sorted_any}
 
 -- a posting of the spill is always asked for, and a stored one by its term
 abbrev pub found_in : ListKind → Bool → Bool → Bool
 found_in Stored asked passes = asked && passes
 found_in Spill asked passes = passes
-
-abbrev pub is_long : Bytes → Bool
-is_long term = not (is_short term)
 
 module _ (kind : ColumnType) (op : Op) (word : Bytes) (test : Pair → Bool) where
   -- the posting is asked for, and its pair passes the test
@@ -98,32 +93,28 @@ module _ (kind : ColumnType) (op : Op) (word : Bytes) (test : Pair → Bool) whe
   stored_found pair [] = never (test pair)
   stored_found pair (term ∷ terms) = ap (λ b. (is_asked kind op word term && test pair) || b) (stored_found pair terms) ∙ shared (is_asked kind op word term) (test pair) (list_any (is_asked kind op word) terms)
 
-  distinct_found : (terms : List Bytes) → list_any (is_asked kind op word) (distinct terms) ≡ list_any (is_asked kind op word) terms
-  distinct_found terms =
-      once_any term_eq (λ a b e. (bytes_decides a b).0 e) (is_asked kind op word) (sort term_cmp terms)
-      ∙ sorted_any term_cmp (is_asked kind op word) terms
-
-  long_found : (b : Bool) (pair : Pair) → list_any found (if b then posting_of [] Spill pair ∷ [] else []) ≡ (test pair && b)
-  long_found true pair = by (test pair)
+  spilled_found : (b : Bool) (pair : Pair) → list_any found (if b then posting_of [] Spill pair ∷ [] else []) ≡ (test pair && b)
+  spilled_found true pair = by (test pair)
     where
       by : (p : Bool) → (p || false) ≡ (p && true)
       by true = refl
       by false = refl
-  long_found false pair = never (test pair)
+  spilled_found false pair = never (test pair)
 
   joined : (p a l : Bool) → ((p && a) || (p && l)) ≡ (p && (l || a))
   joined true a l = swap a l
   joined false a l = refl
 
-  -- **A partition is found where a term is long, or a short one is asked for.**
-  pub partition_found : (pair : Pair) (terms : List Bytes) → list_any found (postings_of pair terms) ≡ (test pair && (list_any is_long terms || list_any (is_asked kind op word) (filter is_short terms)))
-  partition_found pair terms =
-      let any_long = list_any is_long terms in
-      let any_asked = list_any (is_asked kind op word) (filter is_short terms) in
-      list_any-append found (stored_postings pair terms) (of_terms.spill_postings pair terms)
-      ∙ ap (λ b. b || list_any found (of_terms.spill_postings pair terms)) (stored_found pair (distinct (filter is_short terms)) ∙ ap (λ b. test pair && b) (distinct_found (filter is_short terms)))
-      ∙ ap (λ b. (test pair && any_asked) || b) (long_found any_long pair)
-      ∙ joined (test pair) any_asked any_long
+  -- **A partition is found where a term isn't kept, or one that is kept is asked for.**
+  pub partition_found : (kept : Bytes → Bool) (pair : Pair) (terms : List Bytes)
+      → list_any found (postings_of kept pair terms) ≡ (test pair && (list_any (λ term. not (kept term)) terms || list_any (is_asked kind op word) (filter kept terms)))
+  partition_found kept pair terms =
+      let any_other = list_any (λ term. not (kept term)) terms in
+      let any_asked = list_any (is_asked kind op word) (filter kept terms) in
+      list_any-append found (stored_postings kept pair terms) (of_terms.spill_postings kept pair terms)
+      ∙ ap (λ b. b || list_any found (of_terms.spill_postings kept pair terms)) (stored_found pair (distinct (filter kept terms)) ∙ ap (λ b. test pair && b) (distinct_any (is_asked kind op word) (filter kept terms)))
+      ∙ ap (λ b. (test pair && any_asked) || b) (spilled_found any_other pair)
+      ∙ joined (test pair) any_asked any_other
 
   -- ---- the file
 

@@ -1,16 +1,15 @@
 -- The parts of a table, and the keys that an index finds in each.
-use Rattle.std.specs.Prelude.{ℕ, Bool, true, false, ◌&&◌, ◌||◌, not, nat_eq, nat_le, is_some, List, length, map}
+use Rattle.std.specs.Prelude.{ℕ, Bool, true, false, ◌&&◌, ◌||◌, not, nat_eq, is_some, List, length, map}
 use Rattle.std.specs.FinMap as map_
 use Rattle.std.specs.List.{filter, list_all, list_any}
 use Rattle.sasi_types.specs.declared.decorated_key.DecoratedKey.{DecoratedKey}
-use Rattle.sasi_types.specs.declared.mode.Mode.{Mode}
-use Rattle.sasi_types.specs.declared.mode.Mode.TheVariants.{Sparse}
 use Rattle.sasi_terms.specs.declared.op.Op.{Op}
 use Rattle.sasi_model.specs.Abbreviations.{Partitions, value_of}
 use Rattle.sasi_model.specs.Conditions.{Search, finds}
 use Rattle.sasi_model.specs.IndexTerms.{any_holds, cell_at, terms_at, terms_of_cell}
 use Rattle.sasi_model.specs.State.{Index}
 use Rattle.sasi_model.specs.Tokens.{same}
+use Rattle.sasi_sparse.specs.Sparse.{is_rare}
 use Rattle.sasi_postings.specs.Postings.{is_short}
 
 -- where a part stands: in memory, or in a data file beside which there are the index files of these columns
@@ -31,11 +30,6 @@ maps_of parts = map (λ (part : Part). part.holds) parts
 -- how many keys of the map have the term
 abbrev pub keys_with : Index → Partitions → List ℕ → ℕ
 keys_with index m term = length (filter (λ e. list_any (same term) (terms_of_cell index.rule (map_.get e.1.cells index.column))) (map_.entries m))
-
--- an index of the mode SPARSE stores no term of more than five keys
-abbrev pub is_rare : Mode → ℕ → Bool
-is_rare Sparse keys = nat_le keys 5
-is_rare mode keys = true
 
 -- the term is stored: it isn't too long, and in the mode SPARSE it isn't a term of too many keys
 abbrev pub is_stored : Index → Partitions → List ℕ → Bool

@@ -1,5 +1,5 @@
 -- What a search of the index file beside a data file gives, by the keys of the data file.
-use Rattle.std.specs.Prelude.{ℕ, Bool, ◌&&◌, ◌||◌, nat_eq, List, map, ⊤}
+use Rattle.std.specs.Prelude.{ℕ, Bool, ◌||◌, List, map, ⊤}
 use Rattle.std.specs.List.{list_any, zip}
 use Rattle.sasi_types.specs.declared.column.ColumnType.{ColumnType}
 use Rattle.sasi_types.specs.declared.column.ColumnType.TheVariants.{Text}
@@ -13,6 +13,7 @@ use Rattle.sasi_model.specs.State.{Index}
 use Rattle.sasi_datawrite.specs.Format.{Content, decorated_key, key_pairs}
 use Rattle.sasi_indexread.specs.Asked.{asked_lists}
 use Rattle.sasi_indexwrite.specs.Content.{IndexContent}
+pub use Rattle.sasi_indexwrite.specs.Unions.{same_pair}
 use Rattle.sasi_candidates.specs.Parts.{posted, spilled}
 
 -- the pair of each partition, with its key
@@ -27,9 +28,6 @@ CanAsk kind op = ⊤
 -- a pair of one of the lists passes the test
 abbrev pub any_pair : (Pair → Bool) → List (List Pair) → Bool
 any_pair test lists = list_any (list_any test) lists
-
-abbrev pub same_pair : Pair → Pair → Bool
-same_pair a b = nat_eq a.token b.token && nat_eq a.place b.place
 
 -- the pair is in one of the lists of a word
 abbrev pub is_asked_pair : IndexContent → Op → Pair → List ℕ → Bool

@@ -26,7 +26,7 @@ use Rattle.sasi_dataread.specs.Damages.{ShowsHeaderOrFooter}
 use Rattle.sasi_dataread.specs.HeaderAndFooter.{HasHeaderAndFooter, data_framing}
 
 pub data_sizes : AreOfSize data_framing
-data_sizes = record { header = header_of_size magic 0; numbers = footer_of_size; mark = mark_of_size; mark_fits = fits end_mark tt (encoded end_mark tt) mark_encodes }
+data_sizes = record { header = header_of_size magic 0; numbers = λ _ at. footer_of_size at; mark = mark_of_size; mark_fits = fits end_mark tt (encoded end_mark tt) mark_encodes }
 
 module _ (partitioner : Partitioner) (types : List ColumnType) (bytes : Bytes) (content : Content) (is : IsDataFile partitioner types bytes content) (short : length bytes ≤ 2 ^ 62) where
   data_framed : HasHeaderAndFooter bytes (footer_of partitioner content)

@@ -15,7 +15,7 @@ use Rattle.sasi_datawrite.specs.Format.{Content, content_max_timestamp, end_mark
 
 -- a data file has 97 bytes at least, a header that says nothing else, and a footer with 32 bytes of numbers
 abbrev pub data_framing : Framing (Unit {0}) Footer
-data_framing = record { least = 97; header = file_header magic 0; numbers = footer; size = 32; mark = end_mark }
+data_framing = record { least = 97; header = file_header magic 0; numbers = λ _ at. footer at; size = 32; mark = end_mark }
 
 -- the file begins with the header, and ends with a footer of these numbers, which fit their format
 abbrev pub HasHeaderAndFooter : Bytes → Footer → Type 0

@@ -11,8 +11,8 @@ use Rattle.sasi_indexwrite.specs.Content.{IndexContent}
 use Rattle.sasi_indexwrite.specs.Files.{IsIndexFile}
 use Rattle.sasi_indexwrite.specs.Format.{blocks_at, entries}
 use Rattle.sasi_indexread.proofs.BlockCounts.{blocks_wide}
-use Rattle.sasi_indexread.proofs.Laws.{has_blocks, whole_length}
 use Rattle.sasi_indexread.proofs.LevelSizes.{levels_are}
+use Rattle.sasi_indexread.proofs.Standing.{have_bytes, whole_length}
 
 levels_wide : (more at : ℕ) (items : List Item) → AreItems items → EndsAfter (suc more) at items → 3 ^ more < length (blocks items)
 unfolding EndsAfter
@@ -43,8 +43,7 @@ powers_part (suc more) at items are ends few = ⊎_elim
 -- a file of at most 2^40 bytes has at most 27 levels of pointers
 pub few_levels : (bytes : Bytes) (content : IndexContent) (is : IsIndexFile bytes content) → length bytes ≤ 2 ^ 40 → is.blocks.levels ≤ 27
 few_levels bytes content is short =
-    let has = has_blocks bytes content is (omega (arith, short)) in
-    let are = items_are (entries content) has.fit in
+    let are = items_are (entries content) (have_bytes bytes content is (omega (arith, short))) in
     let sizes = levels_are is.blocks.levels (blocks_at content) (items_of (entries content)) are is.referred.levels_are in
     powers_part is.blocks.levels (blocks_at content) (items_of (entries content)) are is.referred.levels_are
     (omega (arith, short, sizes.long, sizes.enough, whole_length bytes content is))

@@ -9,15 +9,15 @@ use Rattle.sasi_host.proofs.Offsets.{first_at, second_at}
 use Rattle.sasi_formats.specs.Formats.{Encodes, encoded}
 use Rattle.sasi_formats.specs.Parts.{ShowsBrokenPart}
 use Rattle.sasi_formats.proofs.Encoding.{encoded_only, fits}
-use Rattle.sasi_framing.specs.Framing.{Framing, HasFraming, EndsWith}
+use Rattle.sasi_framing.specs.Framing.{Framing, HasFraming, HasMark, EndsWith}
 use Rattle.sasi_framing.specs.Damages.{ShowsFraming}
 use Rattle.sasi_framing.specs.Damages.ShowsFraming.{in_mark, in_header, in_footer}
 
 -- a header that breaks its format
-pub header_shows : {A B : Type 0} (framing : Framing A B) (file : FileName) (bytes header : Bytes) (damage : Damage) → length header ≡ 16 → HasAt bytes 0 header
+pub header_shows : {A B : Type 0} (framing : Framing A B) (file : FileName) (bytes header : Bytes) (damage : Damage) → HasMark framing bytes → length header ≡ 16 → HasAt bytes 0 header
     → ((whole : Bytes) → HasAt whole 0 header → ShowsBrokenPart framing.header 0 (length header) file whole damage) → ShowsFraming framing file bytes damage
-header_shows framing file bytes header damage long has shown =
-    in_header (subst (λ (n : ℕ). ShowsBrokenPart framing.header 0 n file bytes damage) long (shown bytes has))
+header_shows framing file bytes header damage mark long has shown =
+    in_header mark (subst (λ (n : ℕ). ShowsBrokenPart framing.header 0 n file bytes damage) long (shown bytes has))
 
 -- the last bytes of a file, cut into numbers and a mark
 module _ {A B : Type 0} (framing : Framing A B) (file : FileName) (size : ℕ) (footer numbers mark bytes : Bytes) (long : length footer ≡ framing.size + 8) (within : framing.size + 8 ≤ size)
@@ -45,24 +45,34 @@ module _ {A B : Type 0} (framing : Framing A B) (file : FileName) (size : ℕ) (
   mark_shows damage shown =
       in_mark (at + framing.size) (omega (arith, within, read.size_is)) (subst (λ (n : ℕ). ShowsBrokenPart framing.mark (at + framing.size) n file bytes damage) mark_long (shown bytes mark_at))
 
-  -- numbers that break theirs
-  pub numbers_show : (damage : Damage) → ((other : Bytes) → HasAt other at numbers → ShowsBrokenPart (framing.numbers at) at (length numbers) file other damage) → ShowsFraming framing file bytes damage
-  numbers_show damage shown =
-      in_footer at (omega (arith, within, read.size_is)) (subst (λ (n : ℕ). ShowsBrokenPart (framing.numbers at) at n file bytes damage) numbers_long (shown bytes (first_at bytes at numbers mark footer_at)))
-
   -- the mark at the end
   pub mark_stands : Encodes framing.mark tt mark → HasAt bytes (at + framing.size) (encoded framing.mark tt)
   mark_stands encodes = subst (λ (l : Bytes). HasAt bytes (at + framing.size) l) (encoded_only framing.mark tt mark encodes) mark_at
 
+  pub has_mark : Encodes framing.mark tt mark → HasMark framing bytes
+  has_mark encodes = record { at = at + framing.size; at_end = omega (arith, within, read.size_is); ends = mark_stands encodes }
+
+  -- numbers that break theirs, behind a header in its format
+  pub numbers_show : (damage : Damage) (header : Bytes) (head : A) → Encodes framing.mark tt mark → HasAt bytes 0 header → Encodes framing.header head header
+      → ((other : Bytes) → HasAt other at numbers → ShowsBrokenPart (framing.numbers head at) at (length numbers) file other damage) → ShowsFraming framing file bytes damage
+  numbers_show damage header head encodes begins first shown =
+      in_footer (record {
+        mark = has_mark encodes;
+        head = head;
+        begins = subst (λ (l : Bytes). HasAt bytes 0 l) (encoded_only framing.header head header first) begins;
+        header_fits = fits framing.header head header first;
+      }) at (omega (arith, within, read.size_is))
+      (subst (λ (n : ℕ). ShowsBrokenPart (framing.numbers head at) at n file bytes damage) numbers_long (shown bytes (first_at bytes at numbers mark footer_at)))
+
   -- a header and a footer in their formats
-  pub framed : (header : Bytes) (head : A) (values : B) → HasAt bytes 0 header → Encodes framing.header head header → Encodes (framing.numbers at) values numbers → Encodes framing.mark tt mark → HasFraming framing bytes head values
+  pub framed : (header : Bytes) (head : A) (values : B) → HasAt bytes 0 header → Encodes framing.header head header → Encodes (framing.numbers head at) values numbers → Encodes framing.mark tt mark → HasFraming framing bytes head values
   framed header head values begins first second third = record {
     begins = subst (λ (l : Bytes). HasAt bytes 0 l) (encoded_only framing.header head header first) begins;
     header_fits = fits framing.header head header first;
     at = at;
     at_end = omega (arith, within, read.size_is);
     ends =
-        subst (λ (l : Bytes). HasAt bytes at (l ++ encoded framing.mark tt)) (encoded_only (framing.numbers at) values numbers second)
+        subst (λ (l : Bytes). HasAt bytes at (l ++ encoded framing.mark tt)) (encoded_only (framing.numbers head at) values numbers second)
         (subst (λ (l : Bytes). HasAt bytes at (numbers ++ l)) (encoded_only framing.mark tt mark third) footer_at);
-    numbers_fit = fits (framing.numbers at) values numbers second;
+    numbers_fit = fits (framing.numbers head at) values numbers second;
   }

@@ -12,8 +12,8 @@ pub record Framing (A B : Type 0) : Type 1 where
   -- no file of that kind is shorter
   pub least : ℕ
   pub header : Format A
-  -- the format of the numbers at an offset, and how many bytes they have
-  pub numbers : ℕ → Format B
+  -- the format of the numbers at an offset, behind a header of this value, and how many bytes they have
+  pub numbers : A → ℕ → Format B
   pub size : ℕ
   pub mark : Format (Unit {0})
 
@@ -23,8 +23,23 @@ pub record HasFraming {A B : Type 0} (framing : Framing A B) (bytes : Bytes) (he
   pub header_fits : Fits framing.header head
   pub at : ℕ
   pub at_end : at + (framing.size + 8) ≡ length bytes
-  pub ends : HasAt bytes at (encoded (framing.numbers at) values ++ encoded framing.mark tt)
-  pub numbers_fit : Fits (framing.numbers at) values
+  pub ends : HasAt bytes at (encoded (framing.numbers head at) values ++ encoded framing.mark tt)
+  pub numbers_fit : Fits (framing.numbers head at) values
+
+-- ---- the first of its parts, in the order in which they are judged
+
+-- the file ends with the mark
+pub record HasMark {A B : Type 0} (framing : Framing A B) (bytes : Bytes) : Type 0 where
+  pub at : ℕ
+  pub at_end : at + 8 ≡ length bytes
+  pub ends : HasAt bytes at (encoded framing.mark tt)
+
+-- and begins with a header
+pub record HasMarkAndHeader {A B : Type 0} (framing : Framing A B) (bytes : Bytes) : Type 0 where
+  pub mark : HasMark framing bytes
+  pub head : A
+  pub begins : HasAt bytes 0 (encoded framing.header head)
+  pub header_fits : Fits framing.header head
 
 -- ---- bytes that were read
 

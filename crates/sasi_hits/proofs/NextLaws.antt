@@ -11,8 +11,7 @@ use Rattle.sasi_terms.specs.declared.op.Op.{Op}
 use Rattle.sasi_treemerge.specs.Merges.{SpendsReads}
 use Rattle.sasi_indexwrite.specs.Content.{IndexContent}
 use Rattle.sasi_indexread.specs.Damages.{ShowsIndex, ShowsIndexFile}
-use Rattle.sasi_indexread.specs.HeaderAndFooter.{HasHeaderAndFooter}
-use Rattle.sasi_indexread.specs.Opened.{OpenIndexFile}
+use Rattle.sasi_indexread.specs.Opened.{HasHeaderAndFooterOf, OpenIndexFile}
 use Rattle.sasi_indexread.specs.Searches.{Searching}
 use Rattle.sasi_ranges.specs.StreamCalls.{Spends, StreamFaults}
 use Rattle.sasi_hits.specs.declared.open_searches.WordSearches.{WordSearches}
@@ -75,14 +74,14 @@ module _ (v w : View) (op : Op) (words : List Bytes) (first now : Searching) (ol
 module _ (index : OpenIndexFile) where
   -- the file has the header and the footer by which it was opened
   abbrev pub WasOpened : Option Folder → Type 0
-  WasOpened files = (bytes : Bytes) → contents_in files index.file ≡ Some bytes → HasHeaderAndFooter bytes index.kind (record { blocks = index.blocks; spill = index.spill })
+  WasOpened files = (bytes : Bytes) → contents_in files index.file ≡ Some bytes → HasHeaderAndFooterOf bytes index
 
   pub hit_faults : {T L : Type 0} (Leaves : L → Type 0) (v w : View) (r : Result T ReadFault) → Changes Same v w → WasOpened v.files
       → StreamFaults (ShowsIn index.file (ShowsIndex index) v.files) (ShowsIn index.file (ShowsIndex index) w.files) Leaves v w r
       → StreamFaults (HitsShow index.file v.files) (HitsShow index.file w.files) Leaves v w r
   hit_faults Leaves v w r change opened one =
       faults_shown index.file (ShowsIndex index) (ShowsIndexFile index.file) Leaves v w r change
-      (λ damage shows bytes reads. inside index.kind (record { blocks = index.blocks; spill = index.spill }) (opened bytes reads) (shows bytes reads)) one
+      (λ damage shows bytes reads. inside index.mode index.kind (record { blocks = index.blocks; table = (opened bytes reads).0; spill = index.spill }) (opened bytes reads).1 (shows bytes reads)) one
 
 -- ---- they are open still
 
@@ -93,7 +92,7 @@ open_on v w file old new now others change first_is others_are index is can =
     record {
       named = ap (λ (o : OpenIndexFile). o.file) kept ∙ is.named;
       opened = λ bytes reads.
-          subst (λ (o : OpenIndexFile). HasHeaderAndFooter bytes o.kind (record { blocks = o.blocks; spill = o.spill })) (sym kept) (is.opened bytes (sym (contents_same v w file change) ∙ reads));
+          subst (λ (o : OpenIndexFile). HasHeaderAndFooterOf bytes o) (sym kept) (is.opened bytes (sym (contents_same v w file change) ∙ reads));
       can = subst (λ (s : Searching). CanMeet (quiet w.files) s new.others.items) (sym first_is)
           (subst (λ (l : List WordSearch). CanMeet (quiet w.files) now l) (sym others_are) (meet_quiet w now others can));
     }

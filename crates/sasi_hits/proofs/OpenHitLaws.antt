@@ -21,8 +21,8 @@ use Rattle.sasi_indexwrite.specs.Content.{IndexContent}
 use Rattle.sasi_indexwrite.specs.Files.{IsIndexFile}
 use Rattle.sasi_treemerge.specs.Merges.{sources_of, unread_of}
 use Rattle.sasi_indexread.specs.Costs.{cost_left, whole_cost}
-use Rattle.sasi_indexread.specs.HeaderAndFooter.{HasHeaderAndFooter, ShowsHeaderOrFooter}
-use Rattle.sasi_indexread.specs.Opened.{IsOpenOn, NoFalseIndexDamage, OpenIndexFile}
+use Rattle.sasi_indexread.specs.HeaderAndFooter.{ShowsHeaderOrFooter}
+use Rattle.sasi_indexread.specs.Opened.{HasHeaderAndFooterOf, IsOpenOn, NoFalseIndexDamage, OpenIndexFile}
 use Rattle.sasi_indexread.specs.Searches.{Searching}
 use Rattle.sasi_indexread.proofs.Callers.{fresh_can, fresh_searches}
 use Rattle.sasi_indexread.proofs.Footers.{numbers_tell}
@@ -156,7 +156,7 @@ module _ (v w : View) (file : FileName) (op : Op) (words : List Bytes) (index : 
   Opens = (bytes : Bytes) (content : IndexContent) → contents v file ≡ Some bytes → IsIndexFile bytes content → IsOpenOn w index content
 
   quietly : (content : IndexContent) → IsOpenOn w index content → IsOpenOn (quiet w.files) index content
-  quietly content on = record { bytes = on.bytes; reads = on.reads; index_file = on.index_file; kind = on.kind; blocks = on.blocks; spill = on.spill }
+  quietly content on = record { bytes = on.bytes; reads = on.reads; index_file = on.index_file; mode = on.mode; kind = on.kind; blocks = on.blocks; spill = on.spill }
 
   pub opened_hits : Opens → (floor : ℕ) (left : List Pair) → HitsLeave file op words floor None v.files left → HitsLeave file op words floor (Some searches) w.files left
   opened_hits opens floor left is = (
@@ -169,22 +169,22 @@ module _ (v w : View) (file : FileName) (op : Op) (words : List Bytes) (index : 
   )
 
   pub opened_hits_pay : Opens → ((bytes : Bytes) → contents v file ≡ Some bytes → length bytes ≤ 2 ^ 62)
-      → ((bytes : Bytes) → contents v file ≡ Some bytes → HasHeaderAndFooter bytes index.kind (record { blocks = index.blocks; spill = index.spill })) → w.reads ≤ v.reads + 3
+      → ((bytes : Bytes) → contents v file ≡ Some bytes → HasHeaderAndFooterOf bytes index) → w.reads ≤ v.reads + 3
       → (most : ℕ) → HitsPay file op words None v.files most → (rest : ℕ) × HitsPay file op words (Some searches) w.files rest × (w.reads + rest ≤ v.reads + most)
   opened_hits_pay opens short has within most is =
       let one = is.2.index_file in
-      let blocks : index.blocks ≡ one.blocks = ap (λ (n : Footer). n.blocks) (numbers_tell is.0 is.1 one (short is.0 is.2.reads) index.kind (record { blocks = index.blocks; spill = index.spill }) (has is.0 is.2.reads)) in
+      let blocks : index.blocks ≡ one.blocks = ap (λ (n : Footer). n.blocks) (numbers_tell is.0 is.1 one (short is.0 is.2.reads) index.mode index.kind (record { blocks = index.blocks; table = (has is.0 is.2.reads).0; spill = index.spill }) (has is.0 is.2.reads).1) in
       let costs = fresh_costs (quiet w.files) index op words searches fresh is.1 ∙ ap (λ (b : BlockRef). all_cost b.levels is.1 op words) blocks in (
         all_cost one.blocks.levels is.1 op words,
         (name_is, (is.1, fresh_searching (quiet w.files) index op words searches fresh is.1 (quietly is.1 (opens is.0 is.1 is.2.reads one)), omega (arith, costs))),
         omega (arith, within, is.3),
       )
 
-  pub opened_hits_ready : ((bytes : Bytes) → contents v file ≡ Some bytes → HasHeaderAndFooter bytes index.kind (record { blocks = index.blocks; spill = index.spill })) → AreOpen file searches w.files
+  pub opened_hits_ready : ((bytes : Bytes) → contents v file ≡ Some bytes → HasHeaderAndFooterOf bytes index) → AreOpen file searches w.files
   opened_hits_ready has = record {
     named = name_is;
     opened = λ bytes reads.
-        subst (λ (o : OpenIndexFile). HasHeaderAndFooter bytes o.kind (record { blocks = o.blocks; spill = o.spill })) (sym fresh.index_is) (has bytes (sym (contents_same v w file change) ∙ reads));
+        subst (λ (o : OpenIndexFile). HasHeaderAndFooterOf bytes o) (sym fresh.index_is) (has bytes (sym (contents_same v w file change) ∙ reads));
     can = record {
       can = fresh_can (quiet w.files) searches.first fresh.fresh;
       floor_is = fresh.fresh.floor;

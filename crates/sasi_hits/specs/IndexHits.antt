@@ -11,8 +11,7 @@ use Rattle.sasi_indexwrite.specs.Content.{IndexContent}
 use Rattle.sasi_indexwrite.specs.Files.{IsIndexFile}
 use Rattle.sasi_indexread.specs.Costs.{whole_cost}
 use Rattle.sasi_indexread.specs.Damages.{ShowsIndexFile}
-use Rattle.sasi_indexread.specs.HeaderAndFooter.{HasHeaderAndFooter}
-use Rattle.sasi_indexread.specs.Opened.{OpenIndexFile}
+use Rattle.sasi_indexread.specs.Opened.{HasHeaderAndFooterOf, OpenIndexFile}
 use Rattle.sasi_indexread.specs.Searches.{IsFresh}
 use Rattle.sasi_ranges.specs.declared.entry.Entry.{Entry}
 use Rattle.sasi_hits.specs.declared.open_searches.WordSearches.{WordSearches}
@@ -69,7 +68,7 @@ HitsPay file op words (Some searches) files most = (searches.first.index.file �
 -- its header and its footer were read, and the searches can go on, whatever the file is
 pub record AreOpen (file : FileName) (searches : WordSearches) (files : Option Folder) : Type 0 where
   pub named : searches.first.index.file ≡ file
-  pub opened : (bytes : Bytes) → contents_in files file ≡ Some bytes → HasHeaderAndFooter bytes searches.first.index.kind (record { blocks = searches.first.index.blocks; spill = searches.first.index.spill })
+  pub opened : (bytes : Bytes) → contents_in files file ≡ Some bytes → HasHeaderAndFooterOf bytes searches.first.index
   pub can : CanMeet (quiet files) searches.first searches.others.items
 
 abbrev pub HitsReady : FileName → Option WordSearches → Option Folder → Type 0

@@ -2,7 +2,6 @@
 ghost use Rattle.std.specs.Prelude.{◌≡◌, ◌≢◌, true, []};
 ghost use Rattle.std.specs.Ordering.{is_lt};
 ghost use Rattle.sasi_types.specs.declared.column.ColumnType.TheVariants.{Uuid};
-ghost use Rattle.sasi_types.specs.declared.mode.Mode.TheVariants.{Prefix};
 ghost use Rattle.sasi_segments.specs.Postings.{posting_cmp};
 ghost use Rattle.sasi_segments.specs.Sorting.{inserted};
 ghost use Rattle.sasi_indexwrite.specs.TermsSoFar.{AreSortedPostings, AreUpTo, IsPosting};
@@ -73,9 +72,8 @@ pub fn add(
     *last = next;
 }
 
-/// The definition of an index of a column of this type.
-fn definition(rt: &impl Abort, alloc: Global, kind: ColumnType) -> IndexDef
-    ensures mode { result.mode ≡ Prefix }
+/// The definition of an index of this mode, of a column of this type.
+fn definition(rt: &impl Abort, alloc: Global, mode: Mode, kind: ColumnType) -> IndexDef
     ensures kind { result.kind ≡ kind }
 {
     IndexDef {
@@ -84,19 +82,25 @@ fn definition(rt: &impl Abort, alloc: Global, kind: ColumnType) -> IndexDef
         name: Name::new(b"i".to_vec(alloc).expect(rt, "memory")),
         column: 1,
         kind,
-        mode: Mode::Prefix,
+        mode,
         rule: Some(Rule::Whole { fold: false }),
     }
 }
 
 /// Writes the file of a gathering to a new folder.
-pub fn write(rt: &impl Abort, alloc: Global, kind: ColumnType, gather: Gather) -> MemHost
+pub fn write(
+    rt: &impl Abort,
+    alloc: Global,
+    mode: Mode,
+    kind: ColumnType,
+    gather: Gather,
+) -> MemHost
     requires gathered { AreSortedPostings gather.postings }
     requires terms { kind ≢ Uuid }
 {
     let mut host = MemHost::new(alloc);
     assert!(rt; host.bytes(FILE).is_none());
-    let def = definition(rt, alloc, kind);
+    let def = definition(rt, alloc, mode, kind);
     write_index(alloc, &mut host, FILE, &def, gather).expect(rt, "written");
     host
 }
@@ -138,11 +142,17 @@ fn add_rows(
 }
 
 /// A file of these pairs, which are in their order.
-pub fn file_of(rt: &impl Abort, alloc: Global, kind: ColumnType, rows: &[Row<'_>]) -> MemHost
+pub fn file_of(
+    rt: &impl Abort,
+    alloc: Global,
+    mode: Mode,
+    kind: ColumnType,
+    rows: &[Row<'_>],
+) -> MemHost
     requires { kind ≢ Uuid }
 {
     let mut last = lowest(alloc);
     let mut gather = Gather::new(alloc, 1, 1);
     add_rows(rt, alloc, &mut gather, &mut last, rows);
-    write(rt, alloc, kind, gather)
+    write(rt, alloc, mode, kind, gather)
 }

@@ -3,7 +3,7 @@ use crate::fixture::{Row, file_of};
 use crate::searches::{bigints, next, numbers, search};
 use sasi_host::MemHost;
 use sasi_terms::{Op, bigint_term, int_term};
-use sasi_types::{ColumnType, ListKind, Token};
+use sasi_types::{ColumnType, ListKind, Mode, Token};
 use std::alloc::Global;
 use std::process::Abort;
 
@@ -18,6 +18,14 @@ fn check_range(rt: &impl Abort, alloc: Global, host: &mut MemHost, range: Range)
         assert!(rt; next(rt, host, &mut found) == Some(token));
     }
     assert!(rt; next(rt, host, &mut found).is_none());
+}
+
+/// Ranges give the numbers from 0 up to the count, whose tokens they are: all of them, those from 3 on, and those from 3 to 70.
+pub fn check_all_numbers(rt: &impl Abort, alloc: Global, mut host: MemHost, count: u64) {
+    check_range(rt, alloc, &mut host, (i64::MIN, i64::MAX, 0, count));
+    check_range(rt, alloc, &mut host, (3, i64::MAX, 3, count));
+    check_range(rt, alloc, &mut host, (3, 70, 3, count.min(71)));
+    drop(host);
 }
 
 /// Each range gives its tokens.
@@ -48,24 +56,28 @@ const RANGES: [Range; 14] = [
 #[test]
 fn ranges_give_their_ints(rt: HostRuntime) {
     let alloc = rt.alloc();
-    check_ranges(&rt, alloc, numbers(&rt, alloc), &RANGES);
+    for mode in [Mode::Prefix, Mode::Sparse] {
+        check_ranges(&rt, alloc, numbers(&rt, alloc, mode), &RANGES);
+    }
 }
 
 #[test]
 fn ranges_give_their_bigints(rt: HostRuntime) {
     let alloc = rt.alloc();
-    check_ranges(&rt, alloc, bigints(&rt, alloc), &RANGES);
+    for mode in [Mode::Prefix, Mode::Sparse] {
+        check_ranges(&rt, alloc, bigints(&rt, alloc, mode), &RANGES);
+    }
 }
 
 /// A file of the least and the greatest int, and of those at zero.
-fn ends_of_ints(rt: &impl Abort, alloc: Global) -> MemHost {
+fn ends_of_ints(rt: &impl Abort, alloc: Global, mode: Mode) -> MemHost {
     let rows: [Row<'_>; 4] = [
         (ListKind::Stored, &int_term(i32::MIN), 0),
         (ListKind::Stored, &int_term(-1), 1),
         (ListKind::Stored, &int_term(0), 2),
         (ListKind::Stored, &int_term(i32::MAX), 3),
     ];
-    file_of(rt, alloc, ColumnType::Int, &rows)
+    file_of(rt, alloc, mode, ColumnType::Int, &rows)
 }
 
 // Ranges of these ints.
@@ -84,18 +96,20 @@ const RANGES_OF_INTS: [Range; 9] = [
 #[test]
 fn ranges_give_the_ends_of_ints(rt: HostRuntime) {
     let alloc = rt.alloc();
-    check_ranges(&rt, alloc, ends_of_ints(&rt, alloc), &RANGES_OF_INTS);
+    for mode in [Mode::Prefix, Mode::Sparse] {
+        check_ranges(&rt, alloc, ends_of_ints(&rt, alloc, mode), &RANGES_OF_INTS);
+    }
 }
 
 /// A file of the least and the greatest bigint, and of those at zero.
-fn ends_of_bigints(rt: &impl Abort, alloc: Global) -> MemHost {
+fn ends_of_bigints(rt: &impl Abort, alloc: Global, mode: Mode) -> MemHost {
     let rows: [Row<'_>; 4] = [
         (ListKind::Stored, &bigint_term(i64::MIN), 0),
         (ListKind::Stored, &bigint_term(-1), 1),
         (ListKind::Stored, &bigint_term(0), 2),
         (ListKind::Stored, &bigint_term(i64::MAX), 3),
     ];
-    file_of(rt, alloc, ColumnType::BigInt, &rows)
+    file_of(rt, alloc, mode, ColumnType::BigInt, &rows)
 }
 
 // Ranges of these bigints.
@@ -111,5 +125,12 @@ const RANGES_OF_BIGINTS: [Range; 6] = [
 #[test]
 fn ranges_give_the_ends_of_bigints(rt: HostRuntime) {
     let alloc = rt.alloc();
-    check_ranges(&rt, alloc, ends_of_bigints(&rt, alloc), &RANGES_OF_BIGINTS);
+    for mode in [Mode::Prefix, Mode::Sparse] {
+        check_ranges(
+            &rt,
+            alloc,
+            ends_of_bigints(&rt, alloc, mode),
+            &RANGES_OF_BIGINTS,
+        );
+    }
 }

@@ -3,7 +3,7 @@ use crate::fixture::{FILE, file_of};
 use crate::searches::search;
 use sasi_host::{Damage, Direct, FormatRule, MemHost, ReadFault, Seen};
 use sasi_terms::Op;
-use sasi_types::{ColumnType, ListKind, TreeRef};
+use sasi_types::{ColumnType, ListKind, Mode, TreeRef};
 use std::alloc::Global;
 use std::process::Abort;
 
@@ -25,7 +25,13 @@ fn changed(rt: &impl Abort, alloc: Global, bytes: &[u8], tree: TreeRef) -> Vec<u
 
 /// A file of one posting, with this reference of the term's tree.
 fn file_with(rt: &impl Abort, alloc: Global, tree: TreeRef) -> MemHost {
-    let mut host = file_of(rt, alloc, ColumnType::Text, &[(ListKind::Stored, b"x", 5)]);
+    let mut host = file_of(
+        rt,
+        alloc,
+        Mode::Prefix,
+        ColumnType::Text,
+        &[(ListKind::Stored, b"x", 5)],
+    );
     let bytes = host.bytes(FILE).expect(rt, "a file");
     let bytes = changed(rt, alloc, bytes, tree);
     host.put(FILE, &bytes).expect(rt, "memory");

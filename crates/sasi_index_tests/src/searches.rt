@@ -8,7 +8,7 @@ use sasi_host::{Direct, MemHost};
 use sasi_indexread::{IndexFile, Search};
 use sasi_segments::{Gather, Posting};
 use sasi_terms::Op;
-use sasi_types::{ColumnType, ListKind, Pair, Token};
+use sasi_types::{ColumnType, ListKind, Mode, Pair, Token};
 use std::alloc::Global;
 use std::process::Abort;
 
@@ -109,7 +109,7 @@ const FEW: [Row<'static>; 10] = [
 
 /// A file of these.
 fn few(rt: &impl Abort, alloc: Global) -> MemHost {
-    file_of(rt, alloc, ColumnType::Text, &FEW)
+    file_of(rt, alloc, Mode::Prefix, ColumnType::Text, &FEW)
 }
 
 #[test]
@@ -174,11 +174,11 @@ fn add_numbers(rt: &impl Abort, alloc: Global, gather: &mut Gather, last: &mut P
 }
 
 /// A file of these ints.
-pub fn numbers(rt: &impl Abort, alloc: Global) -> MemHost {
+pub fn numbers(rt: &impl Abort, alloc: Global, mode: Mode) -> MemHost {
     let mut last = lowest(alloc);
     let mut gather = Gather::new(alloc, 1, 1);
     add_numbers(rt, alloc, &mut gather, &mut last);
-    write(rt, alloc, ColumnType::Int, gather)
+    write(rt, alloc, mode, ColumnType::Int, gather)
 }
 
 #[test]
@@ -200,7 +200,7 @@ fn ranges_find_their_numbers(rt: HostRuntime) {
         (Op::Suffix, b"\xff\xfe", &[8]),
         (Op::Contains, b"\xff\xff", &TOKENS[..10]),
     ];
-    check_each(&rt, alloc, numbers(&rt, alloc), &cases);
+    check_each(&rt, alloc, numbers(&rt, alloc, Mode::Prefix), &cases);
 }
 
 /// Adds the numbers from -10 to 9 as terms of eight bytes, with the tokens from 0 on.
@@ -215,11 +215,11 @@ fn add_bigints(rt: &impl Abort, alloc: Global, gather: &mut Gather, last: &mut P
 }
 
 /// A file of these bigints.
-pub fn bigints(rt: &impl Abort, alloc: Global) -> MemHost {
+pub fn bigints(rt: &impl Abort, alloc: Global, mode: Mode) -> MemHost {
     let mut last = lowest(alloc);
     let mut gather = Gather::new(alloc, 1, 1);
     add_bigints(rt, alloc, &mut gather, &mut last);
-    write(rt, alloc, ColumnType::BigInt, gather)
+    write(rt, alloc, mode, ColumnType::BigInt, gather)
 }
 
 #[test]
@@ -242,11 +242,11 @@ fn ranges_find_their_large_numbers(rt: HostRuntime) {
         (Op::Suffix, b"\xff\xfe", &[8]),
         (Op::Contains, b"\xff\xff", &TOKENS[..10]),
     ];
-    check_each(&rt, alloc, bigints(&rt, alloc), &cases);
+    check_each(&rt, alloc, bigints(&rt, alloc, Mode::Prefix), &cases);
 }
 
 /// The shortest and the longest terms, and pairs of two lists that alternate.
-pub fn edges(rt: &impl Abort, alloc: Global) -> MemHost {
+pub fn edges(rt: &impl Abort, alloc: Global, mode: Mode) -> MemHost {
     let long = [97; 1024];
     let rows: [Row<'_>; 7] = [
         (ListKind::Stored, b"", 5),
@@ -257,12 +257,11 @@ pub fn edges(rt: &impl Abort, alloc: Global) -> MemHost {
         (ListKind::Stored, &long, 3),
         (ListKind::Stored, &long, 8),
     ];
-    file_of(rt, alloc, ColumnType::Text, &rows)
+    file_of(rt, alloc, mode, ColumnType::Text, &rows)
 }
 
-#[test]
-fn shortest_and_longest_terms_are_found(rt: HostRuntime) {
-    let alloc = rt.alloc();
+/// Each operator finds the shortest and the longest terms.
+fn check_edges(rt: &impl Abort, alloc: Global, host: MemHost) {
     let cases: [Case<'_>; 7] = [
         (Op::Eq, b"", &[5]),
         (Op::Eq, b"a", &[1, 3, 7]),
@@ -272,7 +271,15 @@ fn shortest_and_longest_terms_are_found(rt: HostRuntime) {
         (Op::Suffix, &[97; 1024], &[2, 3, 8]),
         (Op::Contains, b"a", &[1, 2, 3, 7, 8]),
     ];
-    check_each(&rt, alloc, edges(&rt, alloc), &cases);
+    check_each(rt, alloc, host, &cases);
+}
+
+#[test]
+fn shortest_and_longest_terms_are_found(rt: HostRuntime) {
+    let alloc = rt.alloc();
+    for mode in [Mode::Prefix, Mode::Contains, Mode::Sparse] {
+        check_edges(&rt, alloc, edges(&rt, alloc, mode));
+    }
 }
 
 /// A term of 40 bytes with this number.
@@ -306,7 +313,7 @@ fn many(rt: &impl Abort, alloc: Global) -> MemHost {
     let mut last = lowest(alloc);
     let mut gather = Gather::new(alloc, 1, 1);
     add_many(rt, alloc, &mut gather, &mut last);
-    write(rt, alloc, ColumnType::Text, gather)
+    write(rt, alloc, Mode::Prefix, ColumnType::Text, gather)
 }
 
 #[test]
@@ -345,7 +352,7 @@ pub fn long_terms(rt: &impl Abort, alloc: Global) -> MemHost {
     let mut last = lowest(alloc);
     let mut gather = Gather::new(alloc, 1, 1);
     add_long_terms(rt, alloc, &mut gather, &mut last);
-    write(rt, alloc, ColumnType::Text, gather)
+    write(rt, alloc, Mode::Prefix, ColumnType::Text, gather)
 }
 
 #[test]

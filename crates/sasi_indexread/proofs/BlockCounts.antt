@@ -49,3 +49,11 @@ last_wide full (first ∷ others) count some three = omega (arith, three, length
 -- so it has more than three times as many entries as blocks in front of the last one
 pub blocks_wide : (items : List Item) → AreSmall items → 1 ≤ length (blocks items) → 3 * length (blocks items) < length items + 3
 blocks_wide items small some = last_wide (cut_of items).full (cut_of items).last (length items) some (wide_cut items small).three
+
+last_holds : (full : List (List Item)) (last : List Item) (count : ℕ) → size last ≤ 4096 → count ≤ 2047 * length full + length last → count ≤ 2047 * length (with_last full last)
+last_holds full [] count fits most = omega (arith, most)
+last_holds full (first ∷ others) count fits most = omega (arith, fits, most, length_push full (first ∷ others))
+
+-- and a block has fewer entries than bytes
+pub blocks_hold : (items : List Item) → AreSmall items → length items ≤ 2047 * length (blocks items)
+blocks_hold items small = let cut = (wide_cut items small).cut in last_holds (cut_of items).full (cut_of items).last (length items) cut.last_fits cut.most

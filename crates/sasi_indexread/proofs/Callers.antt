@@ -12,7 +12,7 @@ use Rattle.sasi_indexread.specs.Damages.{IsListedTree}
 use Rattle.sasi_types.specs.declared.tree.Pair.{Pair}
 use Rattle.sasi_terms.specs.declared.op.Op.{Op}
 use Rattle.sasi_treemerge.specs.declared.merge.TreeMerge.{TreeMerge}
-use Rattle.sasi_treemerge.specs.Merges.{Gives, IsReadable, is_behind, is_left, sources_of}
+use Rattle.sasi_treemerge.specs.Merges.{Gives, IsReadable, Parts, is_behind, is_left, parts_of}
 use Rattle.sasi_indexread.specs.Asked.{asked_lists}
 use Rattle.sasi_indexread.specs.Opened.{IsOpenOn, OpenIndexFile}
 use Rattle.sasi_indexread.specs.Searches.{AreListed, CanSearch, IsFresh, IsSearching, Searching, searching}
@@ -22,9 +22,9 @@ use Rattle.sasi_treemerge.proofs.Merging.{merge_still}
 pub fresh_can : (v : View) (asked : Searching) → IsFresh asked → CanSearch v asked
 fresh_can v asked fresh = record {
   named = fresh.named;
-  merge = record { heap = fresh.heap; each = subst (λ (l : List TreeSource). All (IsReadable v asked.merge.file) l) (sym fresh.empty) (All-nil (IsReadable v asked.merge.file)) };
+  merge = record { heap = fresh.heap; held_heap = fresh.held_heap; each = subst (λ (l : List TreeSource). All (IsReadable v asked.merge.file) l) (sym fresh.empty) (All-nil (IsReadable v asked.merge.file)) };
   listed = λ bytes is. subst (λ (l : List TreeSource). All (λ (s : TreeSource). IsListedTree asked.index bytes s.tree.value.tree) l) (sym fresh.empty) (All-nil (λ (s : TreeSource). IsListedTree asked.index bytes s.tree.value.tree));
-  fresh = λ _. fresh.empty;
+  fresh = λ _. (fresh.empty, fresh.none_held);
 }
 
 -- and searches the file that was opened
@@ -39,6 +39,7 @@ open_still a b opened content same is = record {
   bytes = is.bytes;
   reads = contents_same a b opened.file same ∙ is.reads;
   index_file = is.index_file;
+  mode = is.mode;
   kind = is.kind;
   blocks = is.blocks;
   spill = is.spill;
@@ -74,14 +75,15 @@ low_left last low high pair le left = from (is_behind last pair) (nat_le high pa
     from true false one two h = absurd cc
     from false above one two h = absurd cc
 
-pub skip_searches : (v : View) (index : OpenIndexFile) (op : Op) (body : Bytes) (is_collected : Bool) (old new : TreeMerge) (content : IndexContent) → new.last ≡ old.last → old.floor ≤ new.floor → sources_of new ≡ sources_of old
+pub skip_searches : (v : View) (index : OpenIndexFile) (op : Op) (body : Bytes) (is_collected : Bool) (old new : TreeMerge) (content : IndexContent) → new.last ≡ old.last → old.floor ≤ new.floor → parts_of new ≡ parts_of old
     → IsSearching v (searching index op body is_collected old) content → IsSearching v (searching index op body is_collected new) content
 skip_searches v index op body is_collected old new content last floor same was = record {
   is_open = was.is_open;
   gives = λ done.
       (let gives = was.gives done in
-      subst (λ (l : List TreeSource). Gives was.is_open.bytes (asked_lists content op body) new.last new.floor l) (sym same) (record {
+      subst (λ (l : Parts). Gives was.is_open.bytes (asked_lists content op body) new.last new.floor l) (sym same) (record {
         each = gives.each;
+        held = gives.held;
         all = λ pairs pair listed has left.
             gives.all pairs pair listed has
             (low_left old.last old.floor new.floor pair floor (ap (λ (l : Option Pair). is_left l new.floor pair) (sym last) ∙ left));
@@ -93,6 +95,7 @@ open_back a b opened content same is = record {
   bytes = is.bytes;
   reads = sym (contents_same a b opened.file same) ∙ is.reads;
   index_file = is.index_file;
+  mode = is.mode;
   kind = is.kind;
   blocks = is.blocks;
   spill = is.spill;

@@ -1,4 +1,4 @@
--- The scan of the terms, entry by entry: the sources are those of the lists that are asked for so far.
+-- The scan of the terms, entry by entry: the parts of the merge are those of the lists that are asked for so far.
 use Rattle.std.specs.Prelude.{◌≡◌, ℕ, zero, suc, ◌+◌, ◌-◌, ◌^◌, ◌<◌, ◌≤◌, Bool, true, false, ◌&&◌, not, List, [], ◌∷◌, ◌++◌, length, map, take, drop, get_or, Option, None, Some, refl}
 use Rattle.std.proofs.Common.{◌∙◌, sym, ap, subst, arith, length-drop, take-append-drop, cond}
 use Rattle.std.specs.List.{filter}
@@ -10,7 +10,6 @@ use Rattle.sasi_host.specs.declared.name.FileName.{FileName}
 use Rattle.sasi_host.specs.Names.{Bytes}
 use Rattle.sasi_host.specs.View.{View, contents}
 use Rattle.sasi_terms.specs.declared.op.Op.{Op}
-use Rattle.sasi_tokentree.specs.Format.{HasTree}
 use Rattle.sasi_termblocks.specs.declared.block_ref.BlockRef.{BlockRef}
 use Rattle.sasi_termblocks.specs.declared.term_entry.TermEntry.{TermEntry}
 use Rattle.sasi_termblocks.specs.Entries.{is_below}
@@ -18,13 +17,13 @@ use Rattle.sasi_termblocks.specs.Scans.{CountsBelow, HasPassed, StepsTo, terms_o
 use Rattle.sasi_indexwrite.specs.Content.{IndexContent, TermPairs, terms_in}
 use Rattle.sasi_indexwrite.specs.Files.{IsIndexFile}
 use Rattle.sasi_indexwrite.specs.Format.{entries}
-use Rattle.sasi_treemerge.specs.declared.tree_source.TreeSource.{TreeSource}
 use Rattle.sasi_indexread.specs.Asked.{asked_lists, asks_none, is_asked_term, is_match, is_run, lists_of, lower}
 use Rattle.sasi_indexread.specs.Collects.{AddsEntry, AddsIf, AddsList}
-use Rattle.sasi_treemerge.specs.Merges.{Adds, Gives}
+use Rattle.sasi_treemerge.specs.Merges.{Gives, Parts}
 use Rattle.sasi_indexread.proofs.AskedLaws.{below_lower, past_run}
-use Rattle.sasi_indexread.proofs.Laws.{IsEntryOf, entries_length, none, term_trees, terms_same}
-use Rattle.sasi_treemerge.proofs.Merging.{adds_list}
+use Rattle.sasi_indexread.proofs.Laws.{HasPairsOf, IsEntryOf, entries_length, none, term_trees, terms_same}
+use Rattle.sasi_indexread.proofs.Laws.HasPairsOf.{by_entry, by_tree}
+use Rattle.sasi_treemerge.proofs.Taking.{adds_list, adds_pairs_list}
 
 -- ---- what a test keeps
 
@@ -43,16 +42,13 @@ none_behind test zero (one ∷ others) none =
 none_behind test (suc n) [] none = refl
 none_behind test (suc n) (one ∷ others) none = none_behind test n others (λ k le within. none (suc k) (omega (arith, le)) (omega (arith, within)))
 
--- the scan began at an entry, and is so many further on; it read this entry last, and the sources are those of the lists that
+-- the scan began at an entry, and is so many further on; it read this entry last, and the parts are those of the lists that
 -- were asked for so far
-pub record Collects (bytes : Bytes) (content : IndexContent) (ref : BlockRef) (op : Op) (body : Bytes) (last : Option Pair) (floor turn page index : ℕ) (entry : Option TermEntry) (sources : List TreeSource) : Type 0 where
+pub record Collects (bytes : Bytes) (content : IndexContent) (ref : BlockRef) (op : Op) (body : Bytes) (last : Option Pair) (floor turn page index : ℕ) (entry : Option TermEntry) (parts : Parts) : Type 0 where
   pub from : ℕ
   pub above : (k : ℕ) → from ≤ k → k < length content.terms → is_below (get_or content.terms k ([], [])).0 (lower content.kind op body) ≡ false
   pub steps : StepsTo ref (entries content) (from + turn) page index entry
-  pub gives : Gives bytes (lists_of content op body (take (from + turn) content.terms)) last floor sources
-
-no_list : (t : TreeRef) → Some t ≡ None → ⊥
-no_list t e = cc
+  pub gives : Gives bytes (lists_of content op body (take (from + turn) content.terms)) last floor parts
 
 pub some_same : (s t : TreeRef) → Some s ≡ Some t → s ≡ t
 some_same s t e = cc
@@ -63,6 +59,14 @@ no_truth e = cc
 turned : (b : Bool) → false ≡ not b → b ≡ true
 turned true e = refl
 turned false e = absurd cc
+
+-- the pairs of an entry are one list more
+list_gives : (v : View) (file : FileName) (bytes : Bytes) (lists : List (List Pair)) (pairs : List Pair) (last : Option Pair) (floor : ℕ) (entry : TermEntry) (old new : Parts) → contents v file ≡ Some bytes → HasPairsOf bytes pairs entry
+    → AddsList v file entry.list entry.inline old new → Gives bytes lists last floor old → Gives bytes (lists ++ pairs ∷ []) last floor new
+list_gives v file bytes lists pairs last floor entry old new reads (by_tree tree is has) adds gives =
+    adds_list v file bytes lists last floor tree pairs old new (subst (λ (o : Option TreeRef). AddsList v file o entry.inline old new) is adds) reads has gives
+list_gives v file bytes lists pairs last floor entry old new reads (by_entry none is) adds gives =
+    adds_pairs_list bytes lists last floor pairs old new (subst (λ (o : Option (List Pair)). AddsList v file None o old new) is (subst (λ (o : Option TreeRef). AddsList v file o entry.inline old new) none adds)) gives
 
 -- ---- an index file that is searched
 
@@ -83,13 +87,13 @@ module _ (v : View) (file : FileName) (bytes : Bytes) (content : IndexContent) (
   named (one ∷ others) (suc k) lt = named others k (omega (arith, lt))
 
   term_is : (k : ℕ) → k < length terms → get_or (terms_of (entries content)) k [] ≡ term_at k
-  term_is k lt = ap (λ (l : List Bytes). get_or l k []) (terms_same 16 terms) ∙ named terms k lt
+  term_is k lt = ap (λ (l : List Bytes). get_or l k []) (terms_same content) ∙ named terms k lt
 
   terms_long : length (terms_of (entries content)) ≡ length content.terms
-  terms_long = ap (λ (l : List Bytes). length l) (terms_same 16 content.terms) ∙ length-map content.terms (λ (one : TermPairs). one.0)
+  terms_long = ap (λ (l : List Bytes). length l) (terms_same content) ∙ length-map content.terms (λ (one : TermPairs). one.0)
 
   entries_long : length (entries content) ≡ length content.terms
-  entries_long = entries_length 16 content.terms
+  entries_long = entries_length content
 
   front_lists : (n : ℕ) → ((k : ℕ) → k < n → k < length content.terms → is_match content.kind op body (get_or content.terms k ([], [])).0 ≡ false) → content.spill ∷ [] ≡ lists_of content op body (take n content.terms)
   front_lists n out =
@@ -97,7 +101,7 @@ module _ (v : View) (file : FileName) (bytes : Bytes) (content : IndexContent) (
       (sym (none_front (is_asked_term content op body) n content.terms (λ k lt within. asked_is (get_or content.terms k ([], [])) ∙ out k lt within)))
 
   -- where it begins, no term before is asked for
-  pub begins : (last : Option Pair) (floor passed page index : ℕ) (entry : Option TermEntry) (sources : List TreeSource) → CountsBelow (terms_of (entries content)) (lower content.kind op body) passed → StepsTo ref (entries content) passed page index entry
+  pub begins : (last : Option Pair) (floor passed page index : ℕ) (entry : Option TermEntry) (sources : Parts) → CountsBelow (terms_of (entries content)) (lower content.kind op body) passed → StepsTo ref (entries content) passed page index entry
       → Gives bytes (content.spill ∷ []) last floor sources → Collects bytes content ref op body last floor 0 page index entry sources
   begins last floor passed page index entry sources counts steps gives =
       let base : passed ≡ passed + 0 = omega arith in
@@ -141,7 +145,7 @@ module _ (v : View) (file : FileName) (bytes : Bytes) (content : IndexContent) (
       ∙ append-nil (lists_of content op body (take k content.terms)))
 
   -- an entry more
-  pub collects_next : (last : Option Pair) (floor turn page index new_page new_index : ℕ) (entry : TermEntry) (next : Option TermEntry) (old new : List TreeSource) → Collects bytes content ref op body last floor turn page index (Some entry) old
+  pub collects_next : (last : Option Pair) (floor turn page index new_page new_index : ℕ) (entry : TermEntry) (next : Option TermEntry) (old new : Parts) → Collects bytes content ref op body last floor turn page index (Some entry) old
       → AddsEntry v file content.kind op body entry true old new → ((passed : ℕ) → HasPassed ref (entries content) page index passed → StepsTo ref (entries content) passed new_page new_index next)
       → Collects bytes content ref op body last floor (turn + 1) new_page new_index next new
   collects_next last floor turn page index new_page new_index entry next old new was adds steps =
@@ -153,21 +157,17 @@ module _ (v : View) (file : FileName) (bytes : Bytes) (content : IndexContent) (
         above = was.above;
         steps = subst (λ (n : ℕ). StepsTo ref (entries content) n new_page new_index next) up (steps (k + 1) was.steps.1);
         gives = subst (λ (n : ℕ). Gives bytes (lists_of content op body (take n content.terms)) last floor new) up
-            (by (is_match content.kind op body entry.term) refl adds entry.list refl here);
+            (by (is_match content.kind op body entry.term) refl adds here);
       }
     where
-      by : (test : Bool) → is_match content.kind op body entry.term ≡ test → AddsIf v file op entry test true old new → (list : Option TreeRef) → entry.list ≡ list → IsHere last floor turn page index entry (was.from + turn)
+      by : (test : Bool) → is_match content.kind op body entry.term ≡ test → AddsIf v file op entry test true old new → IsHere last floor turn page index entry (was.from + turn)
           → Gives bytes (lists_of content op body (take (was.from + turn + 1) content.terms)) last floor new
-      by false out added list list_is here =
+      by false out added here =
           subst (λ (l : List (List Pair)). Gives bytes l last floor new) (lists_not (was.from + turn) here.within (ap (λ (t : Bytes). is_match content.kind op body t) (sym here.is_entry.term) ∙ out))
-          (subst (λ (l : List TreeSource). Gives bytes (lists_of content op body (take (was.from + turn) content.terms)) last floor l) (sym added.1) was.gives)
-      by true holds_so added None list_is here = absurd (no_list here.is_entry.tree (sym here.is_entry.list ∙ list_is))
-      by true holds_so added (Some list) list_is here =
-          let same : list ≡ here.is_entry.tree = some_same list here.is_entry.tree (sym list_is ∙ here.is_entry.list) in
-          let adds_one : Adds v file list old new = subst (λ (o : Option TreeRef). AddsList v file o old new) list_is added.1 in
+          (subst (λ (l : Parts). Gives bytes (lists_of content op body (take (was.from + turn) content.terms)) last floor l) (sym added.1) was.gives)
+      by true holds_so added here =
           subst (λ (l : List (List Pair)). Gives bytes l last floor new) (lists_asked (was.from + turn) here.within (ap (λ (t : Bytes). is_match content.kind op body t) (sym here.is_entry.term) ∙ holds_so))
-          (adds_list v file bytes (lists_of content op body (take (was.from + turn) content.terms)) last floor list (get_or content.terms (was.from + turn) ([], [])).1 old new adds_one reads
-          (subst (λ (t : TreeRef). HasTree bytes t (get_or content.terms (was.from + turn) ([], [])).1) (sym same) here.is_entry.has) was.gives)
+          (list_gives v file bytes (lists_of content op body (take (was.from + turn) content.terms)) (get_or content.terms (was.from + turn) ([], [])).1 last floor entry old new reads here.is_entry.has added.1 was.gives)
 
   whole_lists : (n : ℕ) → ((k : ℕ) → n ≤ k → k < length content.terms → is_match content.kind op body (get_or content.terms k ([], [])).0 ≡ false) → lists_of content op body (take n content.terms) ≡ asked_lists content op body
   whole_lists n out =
@@ -178,13 +178,13 @@ module _ (v : View) (file : FileName) (bytes : Bytes) (content : IndexContent) (
       ∙ ap (λ (l : List TermPairs). filter test l) (take-append-drop n content.terms))
 
   -- at the end all are collected
-  pub all_passed : (last : Option Pair) (floor turn page index : ℕ) (entry : Option TermEntry) (sources : List TreeSource) → Collects bytes content ref op body last floor turn page index entry sources → drop turn (entries content) ≡ []
+  pub all_passed : (last : Option Pair) (floor turn page index : ℕ) (entry : Option TermEntry) (sources : Parts) → Collects bytes content ref op body last floor turn page index entry sources → drop turn (entries content) ≡ []
       → Gives bytes (asked_lists content op body) last floor sources
   all_passed last floor turn page index entry sources was none =
       let few : length content.terms ≤ turn = omega (arith, entries_long, length-drop turn (entries content), ap (λ (l : List TermEntry). length l) none) in
       subst (λ (l : List (List Pair)). Gives bytes l last floor sources) (whole_lists (was.from + turn) (λ k le lt. absurd (omega (arith, le, lt, few)))) was.gives
 
-  pub none_left : (last : Option Pair) (floor turn page index : ℕ) (sources : List TreeSource) → Collects bytes content ref op body last floor turn page index None sources → Gives bytes (asked_lists content op body) last floor sources
+  pub none_left : (last : Option Pair) (floor turn page index : ℕ) (sources : Parts) → Collects bytes content ref op body last floor turn page index None sources → Gives bytes (asked_lists content op body) last floor sources
   none_left last floor turn page index sources was =
       let few : length content.terms ≤ was.from + turn = omega (arith, entries_long, length-drop (was.from + turn) (entries content), ap (λ (l : List TermEntry). length l) was.steps.0) in
       subst (λ (l : List (List Pair)). Gives bytes l last floor sources) (whole_lists (was.from + turn) (λ k le lt. absurd (omega (arith, le, lt, few)))) was.gives
@@ -204,7 +204,7 @@ module _ (v : View) (file : FileName) (bytes : Bytes) (content : IndexContent) (
       ap (λ (n : ℕ). is_match content.kind op body (get_or content.terms n ([], [])).0) (omega arith)
       ∙ past_run content.kind op body (get_or content.terms (from + more) ([], [])).0 (get_or content.terms (from + more + 1) ([], [])).0 run (above (from + more) (omega arith) (omega (arith, lt))) before rise
 
-  pub stops : (last : Option Pair) (floor turn page index : ℕ) (entry : TermEntry) (old new : List TreeSource) → Collects bytes content ref op body last floor turn page index (Some entry) old → AddsEntry v file content.kind op body entry false old new
+  pub stops : (last : Option Pair) (floor turn page index : ℕ) (entry : TermEntry) (old new : Parts) → Collects bytes content ref op body last floor turn page index (Some entry) old → AddsEntry v file content.kind op body entry false old new
       → Gives bytes (asked_lists content op body) last floor new
   stops last floor turn page index entry old new was adds = by (is_match content.kind op body entry.term) refl adds (entry_here last floor turn page index (was.from + turn) entry was.steps.0)
     where
@@ -216,5 +216,5 @@ module _ (v : View) (file : FileName) (bytes : Bytes) (content : IndexContent) (
           let first = ap (λ (t : Bytes). is_match content.kind op body t) (sym here.is_entry.term) ∙ out in
           let behind = λ (n : ℕ) (le : was.from + turn ≤ n) (lt : n < length content.terms).
           ap (λ (m : ℕ). is_match content.kind op body (get_or content.terms m ([], [])).0) (omega (arith, le)) ∙ out_behind (was.from + turn) (n - (was.from + turn)) run (λ m low within. was.above m (omega (arith, low)) within) (omega (arith, le, lt)) first in
-          subst (λ (l : List TreeSource). Gives bytes (asked_lists content op body) last floor l) (sym added.1)
+          subst (λ (l : Parts). Gives bytes (asked_lists content op body) last floor l) (sym added.1)
           (subst (λ (l : List (List Pair)). Gives bytes l last floor old) (whole_lists (was.from + turn) behind) was.gives)

@@ -4,6 +4,7 @@ use Rattle.std.proofs.Common.{◌∙◌, sym, ap, subst, arith}
 use Rattle.std.specs.List.{sum_by}
 use Rattle.std.proofs.lemmas.List.Sums.{sum_by-take-le, sum_by_more}
 use Rattle.sasi_types.specs.declared.column.ColumnType.{ColumnType}
+use Rattle.sasi_types.specs.declared.tree.Pair.{Pair}
 use Rattle.sasi_types.specs.declared.tree.TreeRef.{TreeRef}
 use Rattle.sasi_host.specs.declared.name.FileName.{FileName}
 use Rattle.sasi_host.specs.Names.{Bytes}
@@ -18,14 +19,15 @@ use Rattle.sasi_indexwrite.specs.Content.{IndexContent, TermPairs}
 use Rattle.sasi_indexwrite.specs.Format.{entries}
 use Rattle.sasi_treemerge.specs.declared.tree_source.TreeSource.{TreeSource}
 use Rattle.sasi_treemerge.specs.declared.merge.TreeMerge.{TreeMerge}
-use Rattle.sasi_treemerge.specs.Merges.{sources_of, unread_of}
+use Rattle.sasi_treemerge.specs.Merges.{Parts, sources_of, unread_of}
 use Rattle.sasi_indexread.specs.Asked.{asks_none, is_asked, is_asked_term, is_match, is_run}
 use Rattle.sasi_indexread.specs.Collects.{AddsEntry, AddsIf}
 use Rattle.sasi_indexread.specs.Costs.{added_pairs, cost_if, cost_left, list_pairs, term_cost, terms_cost, whole_cost}
 use Rattle.sasi_indexread.specs.Opened.{IsOpenOn, OpenIndexFile}
 use Rattle.sasi_indexread.specs.Searches.{searching}
 use Rattle.sasi_indexread.proofs.Collecting.{entry_here}
-use Rattle.sasi_indexread.proofs.Laws.{IsEntryOf}
+use Rattle.sasi_indexread.proofs.Laws.{HasPairsOf, IsEntryOf}
+use Rattle.sasi_indexread.proofs.Laws.HasPairsOf.{by_entry, by_tree}
 use Rattle.sasi_indexread.proofs.Scanning.{IsShort, blocks_there, some_here, spill_there}
 
 no_truth : false ≡ true → ⊥
@@ -41,8 +43,13 @@ pub record Costs (content : IndexContent) (ref : BlockRef) (op : Op) (body : Byt
 pub costs_end : (content : IndexContent) (ref : BlockRef) (op : Op) (body : Bytes) (turn page index low high : ℕ) (entry : Option TermEntry) → Costs content ref op body turn page index entry low high → high ≤ low + terms_cost content op body
 costs_end content ref op body turn page index low high entry was = omega (arith, was.spent, sum_by-take-le (term_cost content op body) content.terms (was.from + turn))
 
+-- the reads of an entry's pairs are within those pairs
+few_read : (bytes : Bytes) (pairs : List Pair) (entry : TermEntry) → HasPairsOf bytes pairs entry → list_pairs entry.list ≤ length pairs
+few_read bytes pairs entry (by_tree tree is has) = omega (arith, ap (λ (o : Option TreeRef). list_pairs o) is, ap (λ (t : TreeRef). t.pairs) has.referred)
+few_read bytes pairs entry (by_entry none is) = omega (arith, ap (λ (o : Option TreeRef). list_pairs o) none)
+
 -- where the scan stops, no tree was added
-pub none_added : (u : View) (added : FileName) (kind : ColumnType) (op : Op) (body : Bytes) (entry : TermEntry) (old new : List TreeSource) → AddsEntry u added kind op body entry false old new → added_pairs kind op body entry ≡ 0
+pub none_added : (u : View) (added : FileName) (kind : ColumnType) (op : Op) (body : Bytes) (entry : TermEntry) (old new : Parts) → AddsEntry u added kind op body entry false old new → added_pairs kind op body entry ≡ 0
 none_added u added kind op body entry old new adds = by (is_match kind op body entry.term) adds
   where
     by : (test : Bool) → AddsIf u added op entry test false old new → (if test then list_pairs entry.list else 0) ≡ 0
@@ -54,16 +61,13 @@ module _ (v : View) (opened : OpenIndexFile) (op : Op) (body : Bytes) (short : I
   asked_is one = ap (λ (k : ColumnType). is_asked k op body one.0) (sym on.kind) ∙ ap (λ (b : Bool). not b && is_match opened.kind op body one.0) some
 
   -- a term costs what its entry does
-  one_cost : (entry : TermEntry) (one : TermPairs) (u : View) (added : FileName) (old new : List TreeSource) → IsEntryOf on.bytes one entry → AddsEntry u added opened.kind op body entry true old new → 1 + 2 * added_pairs opened.kind op body entry ≤ term_cost content op body one
+  one_cost : (entry : TermEntry) (one : TermPairs) (u : View) (added : FileName) (old new : Parts) → IsEntryOf on.bytes one entry → AddsEntry u added opened.kind op body entry true old new → 1 + 2 * added_pairs opened.kind op body entry ≤ term_cost content op body one
   one_cost entry one u added old new is adds =
       subst (λ (b : Bool). 1 + 2 * added_pairs opened.kind op body entry ≤ cost_if b (is_run op) (length one.1)) (sym (asked_is one ∙ ap (λ (t : Bytes). is_match opened.kind op body t) (sym is.term)))
       (by (is_match opened.kind op body entry.term) (is_run op) refl adds)
     where
       by : (test run : Bool) → is_run op ≡ run → AddsIf u added op entry test true old new → 1 + 2 * (if test then list_pairs entry.list else 0) ≤ cost_if test run (length one.1)
-      by true run run_is h =
-          let own : list_pairs entry.list ≡ is.tree.pairs = ap (λ (o : Option TreeRef). list_pairs o) is.list in
-          let long : is.tree.pairs ≡ length one.1 = ap (λ (t : TreeRef). t.pairs) is.has.referred in
-          omega (arith, own, long)
+      by true run run_is h = omega (arith, few_read on.bytes one.1 entry is.has)
       by false true run_is h = absurd (no_truth (sym (h.0 ∙ ap (λ (b : Bool). not b) run_is)))
       by false false run_is h = omega arith
 
@@ -74,10 +78,7 @@ module _ (v : View) (opened : OpenIndexFile) (op : Op) (body : Bytes) (short : I
       (by (is_match opened.kind op body entry.term) (is_run op))
     where
       by : (test run : Bool) → 2 * (if test then list_pairs entry.list else 0) ≤ cost_if test run (length one.1)
-      by true run =
-          let own : list_pairs entry.list ≡ is.tree.pairs = ap (λ (o : Option TreeRef). list_pairs o) is.list in
-          let long : is.tree.pairs ≡ length one.1 = ap (λ (t : TreeRef). t.pairs) is.has.referred in
-          omega (arith, own, long)
+      by true run = omega (arith, few_read on.bytes one.1 entry is.has)
       by false true = omega arith
       by false false = omega arith
 
@@ -95,7 +96,7 @@ module _ (v : View) (opened : OpenIndexFile) (op : Op) (body : Bytes) (short : I
       )
 
   -- and where the next one could not be read
-  pub next_within : (w : View) (turn page index low high : ℕ) (entry : TermEntry) (old new : List TreeSource) (added : FileName) → Costs content opened.blocks op body turn page index (Some entry) low high
+  pub next_within : (w : View) (turn page index low high : ℕ) (entry : TermEntry) (old new : Parts) (added : FileName) → Costs content opened.blocks op body turn page index (Some entry) low high
       → AddsEntry w added opened.kind op body entry true old new → high + 2 * added_pairs opened.kind op body entry + 1 ≤ low + terms_cost content op body
   next_within w turn page index low high entry old new added was adds =
       let k = was.from + turn in
@@ -120,7 +121,7 @@ module _ (v : View) (opened : OpenIndexFile) (op : Op) (body : Bytes) (short : I
         spent = omega (arith, le);
       }
 
-  pub costs_on : (w u : View) (turn page index new_page new_index low high now : ℕ) (entry : TermEntry) (next : Option TermEntry) (old new : List TreeSource) (added file : FileName) (ref : BlockRef) → file ≡ opened.file → ref ≡ opened.blocks → Changes Same v w
+  pub costs_on : (w u : View) (turn page index new_page new_index low high now : ℕ) (entry : TermEntry) (next : Option TermEntry) (old new : Parts) (added file : FileName) (ref : BlockRef) → file ≡ opened.file → ref ≡ opened.blocks → Changes Same v w
       → Costs content opened.blocks op body turn page index (Some entry) low high → AddsEntry u added opened.kind op body entry true old new → ReadsNext w file ref page index new_page new_index next → now ≤ high + 2 * added_pairs opened.kind op body entry + 1
       → Costs content opened.blocks op body (turn + 1) new_page new_index next low now
   costs_on w u turn page index new_page new_index low high now entry next old new added file ref named is same was adds reads le =

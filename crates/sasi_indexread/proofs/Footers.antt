@@ -1,5 +1,5 @@
 -- The header and the footer of an index file: it has those of its content, and shows no corruption of them.
-use Rattle.std.proofs.Common.{◌≡◌, ◌-◌, ◌^◌, ◌≤◌, length, ap, subst, arith, Some}
+use Rattle.std.proofs.Common.{◌≡◌, ◌-◌, ◌^◌, ◌≤◌, length, subst, arith, Some}
 use Rattle.sasi_types.specs.declared.column.ColumnType.{ColumnType}
 use Rattle.sasi_types.specs.declared.mode.Mode.{Mode}
 use Rattle.sasi_host.specs.declared.name.FileName.{FileName}
@@ -22,10 +22,10 @@ use Rattle.sasi_indexwrite.specs.Format.{end_mark}
 use Rattle.sasi_indexread.specs.Opened.{NoFalseIndexDamage}
 use Rattle.sasi_indexread.specs.HeaderAndFooter.{HasHeaderAndFooter, ShowsHeaderOrFooter, index_framing}
 use Rattle.sasi_indexread.proofs.Fields.{footer_is, footer_of_size, header_fits, header_is, header_of_size, mark_encodes, mark_of_size}
-use Rattle.sasi_indexread.proofs.Laws.{header_stands, footer_stands, in_range, least_size, numbers_of}
+use Rattle.sasi_indexread.proofs.Standing.{header_stands, footer_stands, in_range, least_size, numbers_of}
 
 pub index_sizes : AreOfSize index_framing
-index_sizes = record { header = header_of_size; numbers = footer_of_size; mark = mark_of_size; mark_fits = fits end_mark tt (encoded end_mark tt) mark_encodes }
+index_sizes = record { header = header_of_size; numbers = λ head at. footer_of_size head.0 at; mark = mark_of_size; mark_fits = fits end_mark tt (encoded end_mark tt) mark_encodes }
 
 module _ (bytes : Bytes) (content : IndexContent) (is : IsIndexFile bytes content) (short : length bytes ≤ 2 ^ 62) where
   abbrev own : Mode × ColumnType
@@ -34,10 +34,10 @@ module _ (bytes : Bytes) (content : IndexContent) (is : IsIndexFile bytes conten
   index_framed : HasFraming index_framing bytes own (numbers_of bytes content is)
   index_framed = record {
     begins = subst (λ (l : Bytes). HasAt bytes 0 l) (header_is content.mode content.kind) (header_stands bytes content is);
-    header_fits = header_fits content.mode content.kind is.content_is.built is.content_is.has_terms;
+    header_fits = header_fits content.mode content.kind is.content_is.has_terms;
     at = length bytes - 72;
     at_end = omega (arith, least_size bytes content is);
-    ends = subst (λ (l : Bytes). HasAt bytes (length bytes - 72) l) (footer_is (length bytes - 72) (numbers_of bytes content is)) (footer_stands bytes content is);
+    ends = subst (λ (l : Bytes). HasAt bytes (length bytes - 72) l) (footer_is content.mode (length bytes - 72) (numbers_of bytes content is)) (footer_stands bytes content is);
     numbers_fit = in_range bytes content is short;
   }
 
@@ -45,12 +45,11 @@ module _ (bytes : Bytes) (content : IndexContent) (is : IsIndexFile bytes conten
   index_undamaged = undamaged index_framing index_sizes bytes own (numbers_of bytes content is) index_framed (least_size bytes content is)
 
   -- its header and footer are those of its content
-  pub numbers_tell : (kind : ColumnType) (numbers : Footer) → HasHeaderAndFooter bytes kind numbers → numbers ≡ numbers_of bytes content is
-  numbers_tell kind numbers has = one_footer index_framing index_sizes bytes own (numbers_of bytes content is) index_framed (has.mode, kind) numbers has.framing
+  pub numbers_tell : (mode : Mode) (kind : ColumnType) (numbers : Footer) → HasHeaderAndFooter bytes mode kind numbers → numbers ≡ numbers_of bytes content is
+  numbers_tell mode kind numbers has = one_footer index_framing index_sizes bytes own (numbers_of bytes content is) index_framed (mode, kind) numbers has
 
-  pub kind_told : (kind : ColumnType) (numbers : Footer) → HasHeaderAndFooter bytes kind numbers → kind ≡ content.kind
-  kind_told kind numbers has =
-      ap (λ (h : Mode × ColumnType). h.1) (one_header index_framing index_sizes bytes own (numbers_of bytes content is) index_framed (has.mode, kind) numbers has.framing)
+  pub header_told : (mode : Mode) (kind : ColumnType) (numbers : Footer) → HasHeaderAndFooter bytes mode kind numbers → ◌≡◌ {A = Mode × ColumnType} (mode, kind) (content.mode, content.kind)
+  header_told mode kind numbers has = one_header index_framing index_sizes bytes own (numbers_of bytes content is) index_framed (mode, kind) numbers has
 
 -- a file that is too short for an index file
 pub end_shown : (v : View) (file : FileName) (f : ReadFault) → DamageShown v file (ShowsEnd 4168 file) f → DamageShown v file (ShowsHeaderOrFooter file) f

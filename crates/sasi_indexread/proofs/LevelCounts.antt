@@ -14,7 +14,7 @@ use Rattle.sasi_indexwrite.specs.Format.{blocks_at, entries}
 use Rattle.sasi_indexread.specs.Costs.{pairs_read, whole_cost}
 use Rattle.sasi_indexread.proofs.BlockCounts.{blocks_wide}
 use Rattle.sasi_indexread.proofs.CostLaws.{cost_bound}
-use Rattle.sasi_indexread.proofs.Laws.{has_blocks, whole_length}
+use Rattle.sasi_indexread.proofs.Standing.{have_bytes, whole_length}
 use Rattle.sasi_indexread.proofs.LevelSizes.{levels_are}
 
 -- ---- the levels
@@ -49,8 +49,7 @@ powers_part (suc more) at items are ends few = ⊎_elim
 -- For callers: a file of at most 2^58 bytes has at most 30 levels of pointers,
 pub few_levels : (bytes : Bytes) (content : IndexContent) (is : IsIndexFile bytes content) → length bytes ≤ 2 ^ 58 → is.blocks.levels ≤ 30
 few_levels bytes content is short =
-    let has = has_blocks bytes content is (omega (arith, short)) in
-    let are = items_are (entries content) has.fit in
+    let are = items_are (entries content) (have_bytes bytes content is (omega (arith, short))) in
     let sizes = levels_are is.blocks.levels (blocks_at content) (items_of (entries content)) are is.referred.levels_are in
     powers_part is.blocks.levels (blocks_at content) (items_of (entries content)) are is.referred.levels_are
     (omega (arith, short, sizes.long, sizes.enough, whole_length bytes content is))

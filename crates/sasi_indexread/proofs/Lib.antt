@@ -2,6 +2,7 @@ pub mod LevelSizes
 pub mod BlockCounts
 pub mod Ranges
 pub mod Fields
+pub mod Standing
 pub mod Laws
 pub mod Footers
 pub mod AskedLaws

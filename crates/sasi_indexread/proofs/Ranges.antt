@@ -17,22 +17,19 @@ use Rattle.sasi_indexread.proofs.LevelSizes.{AreLevels, more_blocks, one_block}
 both : (a b : Bool) → a ≡ true → b ≡ true → a && b ≡ true
 both a b p q = ap (λ (t : Bool). t && b) p ∙ q
 
-pub first_passes : (at first page total : ℕ) → first ≡ 4096 * page → 1 ≤ page → at ≡ first + 4096 * total → is_first at first ≡ true
-first_passes at first page total aligned some room =
+pub first_passes : (at first page : ℕ) → first ≡ 4096 * page → 1 ≤ page → first ≤ at → is_first at first ≡ true
+first_passes at first page aligned some within =
     let whole : first % 4096 ≡ 0 = omega arith in
-    let ends : at % 4096 ≡ 0 = omega arith in
     let behind : 4096 ≤ first = omega arith in
-    let within : first ≤ at = omega arith in
-    both (first % 4096 == 0) (at % 4096 == 0 && (nat_le 4096 first && nat_le first at)) (search (rules, whole))
-    (both (at % 4096 == 0) (nat_le 4096 first && nat_le first at) (search (rules, ends)) (both (nat_le 4096 first) (nat_le first at) (search (rules, behind)) (search (rules, within))))
+    both (first % 4096 == 0) (nat_le 4096 first && nat_le first at) (search (rules, whole)) (both (nat_le 4096 first) (nat_le first at) (search (rules, behind)) (search (rules, within)))
 
--- the numbers of blocks, of levels and the top block, where the levels end in front of the footer
+-- the numbers of blocks, of levels and the top block, where the levels end there
 module _ (levels at first : ℕ) (items : List Item) (are : AreLevels levels first items) (room : at ≡ first + 4096 * are.total) (ends : EndsAfter levels first items) where
   all_are : (at - first) / 4096 ≡ are.total
   all_are = omega (arith, room)
 
-  pub room_passes : (count : ℕ) → count ≡ length (blocks items) → has_room at first count ≡ true
-  room_passes count same =
+  count_passes : (count : ℕ) → count ≡ length (blocks items) → (if nat_le ((at - first) / 4096) 1 then count == (at - first) / 4096 else (nat_lt 1 count && nat_lt count ((at - first) / 4096))) ≡ true
+  count_passes count same =
       let all = (at - first) / 4096 in
       ⊎_elim
       (λ low.
@@ -49,6 +46,11 @@ module _ (levels at first : ℕ) (items : List Item) (are : AreLevels levels fir
       ap (λ (t : Bool). if t then (count == all) else (nat_lt 1 count && nat_lt count all)) (lt-leb all 1 large)
       ∙ both (nat_lt 1 count) (nat_lt count all) (search (rules, some)) (search (rules, fewer)))
       (leb_tells levels 0)
+
+  pub room_passes : (page count : ℕ) → first ≡ 4096 * page → count ≡ length (blocks items) → has_room at first count ≡ true
+  room_passes page count aligned same =
+      let whole : at % 4096 ≡ 0 = omega (arith, room, aligned) in
+      both (at % 4096 == 0) (if nat_le ((at - first) / 4096) 1 then count == (at - first) / 4096 else (nat_lt 1 count && nat_lt count ((at - first) / 4096))) (search (rules, whole)) (count_passes count same)
 
   pub levels_pass : (count : ℕ) → count ≡ length (blocks items) → has_levels at first count levels ≡ true
   levels_pass count same =

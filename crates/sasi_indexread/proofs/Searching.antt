@@ -1,6 +1,6 @@
 -- A search, step by step.
 use Rattle.std.specs.Prelude.{◌≡◌, ℕ, ◌+◌, ◌-◌, Bool, true, false, not, ◌&&◌, map, List, [], ◌∷◌, All, Contains, Option, Some, Ok, Err, refl}
-use Rattle.std.proofs.Common.{◌∙◌, sym, ap, subst, arith, cond}
+use Rattle.std.proofs.Common.{◌∙◌, sym, ap, subst, arith, cond, length}
 use Rattle.std.specs.List.{filter}
 use Rattle.sasi_types.specs.declared.column.ColumnType.{ColumnType}
 use Rattle.std.proofs.lemmas.List.Elements.{All-contains, All-nil, All-weaker}
@@ -18,11 +18,12 @@ use Rattle.sasi_host.proofs.CauseLaws.{fault_reads, reads_behind}
 use Rattle.sasi_host.proofs.DamageLaws.{shown_as, shown_before}
 use Rattle.sasi_terms.specs.declared.op.Op.{Op}
 use Rattle.sasi_tokentree.specs.Format.{HasTree}
+use Rattle.sasi_treemerge.specs.declared.held_pair.HeldPair.{HeldPair}
 use Rattle.sasi_treemerge.specs.declared.merge.TreeMerge.{TreeMerge}
 use Rattle.sasi_treemerge.specs.declared.tree_source.TreeSource.{TreeSource}
 use Rattle.sasi_treemerge.specs.MergeDamages.{NoFalseDamageOf, ShowsSources}
-use Rattle.sasi_treemerge.specs.Merges.{Adds, CanMerge, Gives, IsLeast, IsSourceIn, TreesStay, sources_of}
-use Rattle.sasi_treemerge.proofs.Merging.{adds_list}
+use Rattle.sasi_treemerge.specs.Merges.{Adds, CanMerge, Gives, IsLeast, IsSourceIn, Parts, TreesStay, parts_of, sources_of}
+use Rattle.sasi_treemerge.proofs.Taking.{adds_list}
 use Rattle.sasi_indexwrite.specs.Content.{IndexContent, TermPairs}
 use Rattle.sasi_indexwrite.specs.Format.{is_spill}
 use Rattle.sasi_indexread.specs.Asked.{asked_lists, asks_none, is_asked_term, is_match}
@@ -39,20 +40,21 @@ differ e = cc
 
 -- ---- the spill
 
-no_lists : (bytes : Bytes) (last : Option Pair) (floor : ℕ) (sources : List TreeSource) → sources ≡ [] → Gives bytes [] last floor sources
-no_lists bytes last floor sources none = record {
+no_lists : (bytes : Bytes) (last : Option Pair) (floor : ℕ) (parts : Parts) → parts.sources ≡ [] → parts.pairs ≡ [] → Gives bytes [] last floor parts
+no_lists bytes last floor parts none empty = record {
   each = subst (λ (l : List TreeSource). All (IsSourceIn bytes []) l) (sym none) (All-nil (IsSourceIn bytes []));
+  held = λ pair is. absurd (omega (arith, is.1, ap (λ (l : List HeldPair). length l) empty));
   all = λ pairs pair listed has left. absurd (omega (arith, listed.1));
 }
 
-pub spill_gives : (v : View) (opened : OpenIndexFile) (file : FileName) (list : TreeRef) (last : Option Pair) (floor : ℕ) (old new : List TreeSource) → IsShort v opened.file → file ≡ opened.file → list ≡ opened.spill → old ≡ [] → Adds v file list old new
+pub spill_gives : (v : View) (opened : OpenIndexFile) (file : FileName) (list : TreeRef) (last : Option Pair) (floor : ℕ) (old new : Parts) → IsShort v opened.file → file ≡ opened.file → list ≡ opened.spill → old.sources ≡ [] → old.pairs ≡ [] → Adds v file list old new
     → (content : IndexContent) (on : IsOpenOn v opened content) → Gives on.bytes (content.spill ∷ []) last floor new
-spill_gives v opened file list last floor old new short named is none adds content on =
+spill_gives v opened file list last floor old new short named is none empty adds content on =
     adds_list v file on.bytes [] last floor list content.spill old new adds (ap (λ (n : FileName). contents v n) named ∙ on.reads)
-    (subst (λ (t : TreeRef). HasTree on.bytes t content.spill) (sym is) (spill_there v opened content on short)) (no_lists on.bytes last floor old none)
+    (subst (λ (t : TreeRef). HasTree on.bytes t content.spill) (sym is) (spill_there v opened content on short)) (no_lists on.bytes last floor old none empty)
 
-pub spill_listed : (v : View) (opened : OpenIndexFile) (file : FileName) (list : TreeRef) (old new : List TreeSource) → list ≡ opened.spill → is_spill opened.blocks.first opened.spill ≡ true → old ≡ [] → Adds v file list old new
-    → AreListed v opened new
+pub spill_listed : (v : View) (opened : OpenIndexFile) (file : FileName) (list : TreeRef) (old new : Parts) → list ≡ opened.spill → is_spill opened.blocks.first opened.spill ≡ true → old.sources ≡ [] → Adds v file list old new
+    → AreListed v opened new.sources
 spill_listed v opened file list old new is possible none adds =
     adds_listed v v opened file list old new adds (λ bytes told. of_spill is possible) (λ bytes told. subst (λ (l : List TreeSource). All (λ (s : TreeSource). IsListedTree opened bytes s.tree.value.tree) l) (sym none) (All-nil (λ (s : TreeSource). IsListedTree opened bytes s.tree.value.tree)))
 
@@ -60,15 +62,15 @@ none_kept : (test : TermPairs → Bool) (terms : List TermPairs) → ((one : Ter
 none_kept test [] none = refl
 none_kept test (one ∷ others) none = ap (λ (b : Bool). cond b (one ∷ filter test others) (filter test others)) (none one) ∙ none_kept test others none
 
-pub spill_gives_now : (v w : View) (opened : OpenIndexFile) (file : FileName) (list : TreeRef) (last : Option Pair) (floor : ℕ) (old new : List TreeSource) → Changes Same v w → IsShort v opened.file → file ≡ opened.file → list ≡ opened.spill → old ≡ [] → Adds v file list old new
-    → (content : IndexContent) (on : IsOpenOn w opened content) → Gives on.bytes (content.spill ∷ []) last floor new
+pub spill_gives_now : (v w : View) (opened : OpenIndexFile) (file : FileName) (list : TreeRef) (last : Option Pair) (floor : ℕ) (old new : Parts) → Changes Same v w → IsShort v opened.file → file ≡ opened.file → list ≡ opened.spill → old.sources ≡ [] → old.pairs ≡ []
+    → Adds v file list old new → (content : IndexContent) (on : IsOpenOn w opened content) → Gives on.bytes (content.spill ∷ []) last floor new
 unfolding open_back
-spill_gives_now v w opened file list last floor old new same short named is none adds content on = spill_gives v opened file list last floor old new short named is none adds content (open_back v w opened content same on)
+spill_gives_now v w opened file list last floor old new same short named is none empty adds content on = spill_gives v opened file list last floor old new short named is none empty adds content (open_back v w opened content same on)
 
-pub gives_before : (v w : View) (opened : OpenIndexFile) (op : Op) (body : Bytes) (last : Option Pair) (floor : ℕ) (sources : List TreeSource) → Changes Same v w → ((content : IndexContent) (on : IsOpenOn w opened content) → Gives on.bytes (asked_lists content op body) last floor sources)
-    → (content : IndexContent) (on : IsOpenOn v opened content) → Gives on.bytes (asked_lists content op body) last floor sources
+pub gives_before : (v w : View) (opened : OpenIndexFile) (op : Op) (body : Bytes) (last : Option Pair) (floor : ℕ) (parts : Parts) → Changes Same v w → ((content : IndexContent) (on : IsOpenOn w opened content) → Gives on.bytes (asked_lists content op body) last floor parts)
+    → (content : IndexContent) (on : IsOpenOn v opened content) → Gives on.bytes (asked_lists content op body) last floor parts
 unfolding open_still
-gives_before v w opened op body last floor sources same gives content on = gives content (open_still v w opened content same on)
+gives_before v w opened op body last floor parts same gives content on = gives content (open_still v w opened content same on)
 
 pub no_false_before : (v w : View) (opened : OpenIndexFile) (f : ReadFault) → Changes Same v w → NoFalseSearchDamage w opened f → NoFalseSearchDamage v opened f
 no_false_before v w opened fault.Failed same right = tt
@@ -76,7 +78,7 @@ no_false_before v w opened fault.OutOfMemory same right = tt
 no_false_before v w opened (fault.Damaged damage) same right = λ content on. right content (open_still v w opened content same on)
 
 -- where no term is asked for, the spill is all
-pub spill_alone : (content : IndexContent) (opened : OpenIndexFile) (op : Op) (body : Bytes) (bytes : Bytes) (last : Option Pair) (floor : ℕ) (sources : List TreeSource) → opened.kind ≡ content.kind → asks_none opened.kind op ≡ true → Gives bytes (content.spill ∷ []) last floor sources
+pub spill_alone : (content : IndexContent) (opened : OpenIndexFile) (op : Op) (body : Bytes) (bytes : Bytes) (last : Option Pair) (floor : ℕ) (sources : Parts) → opened.kind ≡ content.kind → asks_none opened.kind op ≡ true → Gives bytes (content.spill ∷ []) last floor sources
     → Gives bytes (asked_lists content op body) last floor sources
 spill_alone content opened op body bytes last floor sources kind asks gives =
     let none : filter (is_asked_term content op body) content.terms ≡ [] =
@@ -94,7 +96,7 @@ listed_stay v opened old new stay listed = λ bytes is.
     (λ s was. subst (λ (t : TreeRef). IsListedTree opened bytes t) (sym was.2) (All-contains (λ (t : TreeSource). IsListedTree opened bytes t.tree.value.tree) old was.0 (listed bytes is) was.1)) new stay
 
 pub now_collected : (a b : View) (index : OpenIndexFile) (op : Op) (body : Bytes) (was : Bool) (old new : TreeMerge) (content : IndexContent) → Changes Same a b
-    → ((content : IndexContent) (on : IsOpenOn a index content) → Gives on.bytes (asked_lists content op body) new.last new.floor (sources_of new))
+    → ((content : IndexContent) (on : IsOpenOn a index content) → Gives on.bytes (asked_lists content op body) new.last new.floor (parts_of new))
     → IsSearching a (searching index op body was old) content → IsSearching b (searching index op body true new) content
 unfolding open_still
 now_collected a b index op body was old new content same collects is = record { is_open = open_still a b index content same is.is_open; gives = λ _. collects content is.is_open }
@@ -120,7 +122,7 @@ next_can a b index op body done old new is same can file merge stay = record {
 -- the merge's pair is that of the search
 pub next_gives : (a b c : View) (index : OpenIndexFile) (op : Op) (body : Bytes) (was done : Bool) (first old new : TreeMerge) (found : Option Pair) (content : IndexContent) → done ≡ true → Changes Same b c → old.file ≡ index.file → old.last ≡ first.last → old.floor ≡ first.floor
     → (IsSearching a (searching index op body was first) content → IsSearching b (searching index op body done old) content)
-    → ((bytes : Bytes) (lists : List (List Pair)) → contents b old.file ≡ Some bytes → Gives bytes lists old.last old.floor (sources_of old) → IsLeast lists old.last old.floor found × Gives bytes lists new.last new.floor (sources_of new))
+    → ((bytes : Bytes) (lists : List (List Pair)) → contents b old.file ≡ Some bytes → Gives bytes lists old.last old.floor (parts_of old) → IsLeast lists old.last old.floor found × Gives bytes lists new.last new.floor (parts_of new))
     → IsSearching a (searching index op body was first) content
     → IsLeast (asked_lists content op body) first.last first.floor found × IsSearching c (searching index op body done new) content
 unfolding open_still

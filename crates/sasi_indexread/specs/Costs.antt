@@ -11,7 +11,7 @@ use Rattle.sasi_treemerge.specs.Merges.{sources_of, unread_of}
 use Rattle.sasi_indexread.specs.Asked.{is_asked_term, is_match, is_run}
 use Rattle.sasi_indexread.specs.Searches.{Searching}
 
--- the pairs of an entry's tree, where its term is asked for
+-- the pairs of an entry's tree, where its term is asked for; those that it has itself take no further read
 abbrev pub list_pairs : Option TreeRef → ℕ
 list_pairs None = 0
 list_pairs (Some list) = list.pairs

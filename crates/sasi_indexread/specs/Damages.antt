@@ -1,6 +1,7 @@
 -- Where a file breaks the format of an index file, and what is there.
 use Rattle.std.specs.Prelude.{◌≡◌, ℕ, ◌*◌, Some, true}
 use Rattle.sasi_types.specs.declared.column.ColumnType.{ColumnType}
+use Rattle.sasi_types.specs.declared.mode.Mode.{Mode}
 use Rattle.sasi_types.specs.declared.tree.TreeRef.{TreeRef}
 use Rattle.sasi_host.specs.declared.damage.Damage.{Damage}
 use Rattle.sasi_host.specs.declared.name.FileName.{FileName}
@@ -12,7 +13,7 @@ use Rattle.sasi_termblocks.specs.Entries.{term_entry}
 use Rattle.sasi_termblocks.specs.Windows.{HasEntry, RefersWithin}
 use Rattle.sasi_treemerge.specs.MergeDamages.{ShowsPairs}
 use Rattle.sasi_indexwrite.specs.declared.footer.Footer.{Footer}
-use Rattle.sasi_indexwrite.specs.Format.{is_spill}
+use Rattle.sasi_indexwrite.specs.Format.{form_of, is_spill}
 use Rattle.sasi_indexread.specs.HeaderAndFooter.{HasHeaderAndFooter, ShowsHeaderOrFooter}
 use Rattle.sasi_indexread.specs.Opened.{OpenIndexFile}
 
@@ -34,14 +35,14 @@ pub data IsListedTree (opened : OpenIndexFile) (bytes : Bytes) (tree : TreeRef) 
 
 -- the damage is that of the blocks, with the references in them, or of a tree to which the file leads
 pub data ShowsIndex (opened : OpenIndexFile) (bytes : Bytes) (damage : Damage) : Type 0 where
-  in_blocks : ShowsBlocks opened.file opened.blocks bytes damage → ShowsIndex opened bytes damage
+  in_blocks : ShowsBlocks opened.file opened.blocks (form_of opened.mode) bytes damage → ShowsIndex opened bytes damage
   in_tree : (tree : TreeRef) → IsListedTree opened bytes tree → ShowsPairs opened.file tree bytes damage → ShowsIndex opened bytes damage
 
--- the view of a file that was opened by these numbers of its footer
-abbrev pub opened_by : FileName → ColumnType → Footer → OpenIndexFile
-opened_by file kind numbers = record { file = file; kind = kind; blocks = numbers.blocks; spill = numbers.spill }
+-- the view of a file that was opened by this header and these numbers of its footer
+abbrev pub opened_by : FileName → Mode → ColumnType → Footer → OpenIndexFile
+opened_by file mode kind numbers = record { file = file; mode = mode; kind = kind; blocks = numbers.blocks; spill = numbers.spill }
 
 -- the damage is that of this index file: of its header or its footer, or of a part to which the footer leads
 pub data ShowsIndexFile (file : FileName) (bytes : Bytes) (damage : Damage) : Type 0 where
   outside : ShowsHeaderOrFooter file bytes damage → ShowsIndexFile file bytes damage
-  inside : (kind : ColumnType) (numbers : Footer) → HasHeaderAndFooter bytes kind numbers → ShowsIndex (opened_by file kind numbers) bytes damage → ShowsIndexFile file bytes damage
+  inside : (mode : Mode) (kind : ColumnType) (numbers : Footer) → HasHeaderAndFooter bytes mode kind numbers → ShowsIndex (opened_by file mode kind numbers) bytes damage → ShowsIndexFile file bytes damage

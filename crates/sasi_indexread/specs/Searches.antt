@@ -9,10 +9,11 @@ use Rattle.sasi_indexwrite.specs.Content.{IndexContent}
 use Rattle.std.specs.BinaryHeap.{IsHeap}
 use Rattle.sasi_treemerge.specs.declared.merge.TreeMerge.{TreeMerge}
 use Rattle.sasi_treemerge.specs.declared.tree_source.TreeSource.{TreeSource}
+use Rattle.sasi_treemerge.specs.Held.{held_cmp}
 use Rattle.sasi_treemerge.specs.Sources.{source_cmp}
 use Rattle.sasi_indexread.specs.Asked.{asked_lists}
 use Rattle.sasi_indexread.specs.Damages.{IsListedTree}
-use Rattle.sasi_treemerge.specs.Merges.{CanMerge, Gives, sources_of}
+use Rattle.sasi_treemerge.specs.Merges.{CanMerge, Gives, held_of, parts_of, sources_of}
 use Rattle.sasi_indexread.specs.Opened.{OpenIndexFile, IsOpenOn}
 
 -- the view of a search: the file, what is asked, and the merge of the trees once they were collected
@@ -35,13 +36,15 @@ pub record CanSearch (v : View) (search : Searching) : Type 0 where
   pub named : search.merge.file ≡ search.index.file
   pub merge : CanMerge v search.merge
   pub listed : AreListed v search.index (sources_of search.merge)
-  pub fresh : search.is_collected ≡ false → sources_of search.merge ≡ []
+  pub fresh : search.is_collected ≡ false → (sources_of search.merge ≡ []) × (held_of search.merge ≡ [])
 
 -- nothing was searched yet
 pub record IsFresh (search : Searching) : Type 0 where
   pub named : search.merge.file ≡ search.index.file
   pub heap : IsHeap source_cmp (sources_of search.merge)
   pub empty : sources_of search.merge ≡ []
+  pub held_heap : IsHeap held_cmp (held_of search.merge)
+  pub none_held : held_of search.merge ≡ []
   pub begins : search.is_collected ≡ false
   pub last : search.merge.last ≡ None
   pub floor : search.merge.floor ≡ 0
@@ -49,7 +52,7 @@ pub record IsFresh (search : Searching) : Type 0 where
 -- it searches the index file of this content, and still gives each pair that is left
 pub record IsSearching (v : View) (search : Searching) (content : IndexContent) : Type 0 where
   pub is_open : IsOpenOn v search.index content
-  pub gives : search.is_collected ≡ true → Gives is_open.bytes (asked_lists content search.op search.body) search.merge.last search.merge.floor (sources_of search.merge)
+  pub gives : search.is_collected ≡ true → Gives is_open.bytes (asked_lists content search.op search.body) search.merge.last search.merge.floor (parts_of search.merge)
 
 -- damage is reported only where the file isn't the index file that is searched
 abbrev pub NoFalseSearchingDamage : View → Searching → ReadFault → Type 0

@@ -14,7 +14,7 @@ use crate::parts::{header_in, numbers_in};
 use sasi_framing::{check_mark, read_header_and_footer};
 use sasi_host::{Damage, FileName, Host, PageReader, ReadFault};
 use sasi_indexwrite::Footer;
-use sasi_types::ColumnType;
+use sasi_types::{ColumnType, Mode};
 
 // The bytes of a header.
 const HEADER: usize = 16;
@@ -28,37 +28,49 @@ const NUMBERS: usize = 64;
 // No index file is shorter.
 const MIN_FILE_SIZE: u64 = 4168;
 
+/// What an index file says in its header and its footer.
+#[derive(Clone, Copy)]
+pub struct HeaderAndFooter {
+    pub mode: Mode,
+    pub kind: ColumnType,
+    pub numbers: Footer,
+}
+
 // Decodes the header and the footer of a file of this size.
 fn decode(
     file: FileName,
     size: u64,
     header: &[u8],
     footer: &[u8],
-) -> Result<(ColumnType, Footer), Damage>
+) -> Result<HeaderAndFooter, Damage>
     requires header { length header.now ≡ 16 }
     requires footer { length footer.now ≡ 72 }
     requires size { 72 ≤ size }
-    ensures ok { IfOk result (λ read. (bytes : Bytes) → BeginsAndEndsWith size header.now footer.now bytes → HasHeaderAndFooter bytes read.0 read.1) }
-    ensures spill { IfOk result (λ read. is_spill read.1.blocks.first read.1.spill ≡ true) }
+    ensures ok { IfOk result (λ read. (bytes : Bytes) → BeginsAndEndsWith size header.now footer.now bytes → HasHeaderAndFooter bytes read.mode read.kind read.numbers) }
+    ensures spill { IfOk result (λ read. is_spill read.numbers.blocks.first read.numbers.spill ≡ true) }
     ensures damaged { IfErr result (λ damage. (bytes : Bytes) → BeginsAndEndsWith size header.now footer.now bytes → ShowsHeaderOrFooter file bytes damage) }
 {
     let at = size - FOOTER as u64;
     let (numbers, mark) = footer.split_at(NUMBERS);
     check_mark(file, at + NUMBERS as u64, b"SASIIEND", mark)?;
     let fields = header_in(file, header)?;
-    let numbers = numbers_in(file, at, numbers)?;
-    Ok((fields.1, numbers))
+    let numbers = numbers_in(file, fields.0, at, numbers)?;
+    Ok(HeaderAndFooter {
+        mode: fields.0,
+        kind: fields.1,
+        numbers,
+    })
 }
 
-/// Reads the header and the footer of a file, and gives the type of the column and the footer.
+/// Reads the header and the footer of a file.
 pub fn read_footer<H: Host, P: PageReader>(
     host: &mut H,
     pages: &mut P,
     file: FileName,
-) -> Result<(ColumnType, Footer), ReadFault>
+) -> Result<HeaderAndFooter, ReadFault>
     requires read { CanRead (P.agrees pages.old) (H.view host.old) file }
-    ensures ok { IfOk result (λ read. (bytes : Bytes) → contents (H.view host.old) file ≡ Some bytes → HasHeaderAndFooter bytes read.0 read.1) }
-    ensures spill { IfOk result (λ read. is_spill read.1.blocks.first read.1.spill ≡ true) }
+    ensures ok { IfOk result (λ read. (bytes : Bytes) → contents (H.view host.old) file ≡ Some bytes → HasHeaderAndFooter bytes read.mode read.kind read.numbers) }
+    ensures spill { IfOk result (λ read. is_spill read.numbers.blocks.first read.numbers.spill ≡ true) }
     ensures damaged { IfErr result (DamageShown (H.view host.old) file (ShowsHeaderOrFooter file)) }
     ensures undamaged { IfErr result (NoFalseIndexDamage (H.view host.old) file) }
     ensures read { HasRead (P.agrees pages.new) (P.covers pages.old) (P.covers pages.new) (H.view host.old) (H.view host.new) file }

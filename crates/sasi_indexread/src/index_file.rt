@@ -9,8 +9,8 @@ ghost use Rattle.sasi_framing.specs.Framing.{OpensWithinPages};
 ghost use Rattle.sasi_indexwrite.specs.Content.{IndexContent};
 ghost use Rattle.sasi_indexwrite.specs.Files.{IsIndexFile};
 ghost use Rattle.sasi_indexwrite.specs.Format.{is_spill};
-ghost use Rattle.sasi_indexread.specs.Opened.{IsOpenOn, NoFalseIndexDamage};
-ghost use Rattle.sasi_indexread.specs.HeaderAndFooter.{HasHeaderAndFooter, ShowsHeaderOrFooter};
+ghost use Rattle.sasi_indexread.specs.Opened.{HasHeaderAndFooterOf, IsOpenOn, NoFalseIndexDamage};
+ghost use Rattle.sasi_indexread.specs.HeaderAndFooter.{ShowsHeaderOrFooter};
 ghost use Rattle.sasi_indexread.specs.Searches.{IsFresh};
 
 use crate::Search;
@@ -18,14 +18,15 @@ use crate::footer::read_footer;
 use sasi_host::{FileName, Host, PageReader, ReadFault};
 use sasi_termblocks::BlockRef;
 use sasi_terms::Op;
-use sasi_types::{ColumnType, TreeRef};
+use sasi_types::{ColumnType, Mode, TreeRef};
 use std::alloc::{AllocError, Global};
 use std::marker::Model;
 
-/// An open index file. It keeps the type of the indexed column and the numbers of the footer.
+/// An open index file. It keeps the mode of the index, the type of the indexed column, and what of the footer a search needs.
 #[derive(Drop)]
 pub struct IndexFile {
     file: FileName,
+    mode: Mode,
     kind: ColumnType,
     blocks: BlockRef,
     spill: TreeRef,
@@ -38,13 +39,13 @@ impl Model for IndexFile {
 
     ghost Value = { OpenIndexFile };
 
-    ghost view = { λ a. record { file = a.file; kind = a.kind; blocks = a.blocks; spill = a.spill } };
+    ghost view = { λ a. record { file = a.file; mode = a.mode; kind = a.kind; blocks = a.blocks; spill = a.spill } };
 
     ghost invariant = { λ a. is_spill a.blocks.first a.spill ≡ true };
 }
 
 impl IndexFile {
-    /// Opens an index file by its header and its footer. Files of the mode SPARSE aren't read yet.
+    /// Opens an index file by its header and its footer, which are read by three reads at most.
     pub fn open<H: Host, P: PageReader>(
         host: &mut H,
         pages: &mut P,
@@ -52,7 +53,7 @@ impl IndexFile {
     ) -> Result<IndexFile, ReadFault>
         requires read { CanRead (P.agrees pages.old) (H.view host.old) file }
         ensures ok { IfOk result (λ opened. (bytes : Bytes) (content : IndexContent) → contents (H.view host.old) file ≡ Some bytes → IsIndexFile bytes content → IsOpenOn (H.view host.new) opened content) }
-        ensures header_and_footer { IfOk result (λ opened. (bytes : Bytes) → contents (H.view host.old) file ≡ Some bytes → HasHeaderAndFooter bytes opened.kind (record { blocks = opened.blocks; spill = opened.spill })) }
+        ensures header_and_footer { IfOk result (λ opened. (bytes : Bytes) → contents (H.view host.old) file ≡ Some bytes → HasHeaderAndFooterOf bytes opened) }
         ensures file { IfOk result (λ opened. opened.file ≡ file) }
         ensures damaged { IfErr result (DamageShown (H.view host.old) file (ShowsHeaderOrFooter file)) }
         ensures undamaged { IfErr result (NoFalseIndexDamage (H.view host.old) file) }
@@ -60,12 +61,13 @@ impl IndexFile {
         ensures causes { ReadCost 3 (H.view host.old) (H.view host.new) result }
         ensures reads { OpensWithinPages (H.view host.old) (H.view host.new) file }
     {
-        let (kind, footer) = read_footer(host, pages, file)?;
+        let read = read_footer(host, pages, file)?;
         Ok(IndexFile {
             file,
-            kind,
-            blocks: footer.blocks,
-            spill: footer.spill,
+            mode: read.mode,
+            kind: read.kind,
+            blocks: read.numbers.blocks,
+            spill: read.numbers.spill,
         })
     }
 
@@ -84,6 +86,7 @@ impl IndexFile {
     {
         IndexFile {
             file: self.file,
+            mode: self.mode,
             kind: self.kind,
             blocks: self.blocks,
             spill: self.spill,
@@ -95,6 +98,13 @@ impl IndexFile {
         ensures { result ≡ self.now.file }
     {
         self.file
+    }
+
+    // The mode of the index.
+    pub(crate) fn mode(&self) -> Mode
+        ensures { result ≡ self.now.mode }
+    {
+        self.mode
     }
 
     // The type of the indexed column.

@@ -8,8 +8,9 @@ ghost use Rattle.sasi_indexwrite.specs.Content.{IndexContent};
 ghost use Rattle.sasi_indexread.specs.Asked.{AreNumberTerms, asked_lists, holding_lists};
 ghost use Rattle.sasi_indexread.specs.Costs.{cost_left};
 ghost use Rattle.sasi_indexread.specs.Damages.{ShowsIndex};
-ghost use Rattle.sasi_treemerge.specs.Merges.{IsLeast, SpendsReads, is_left, last_after, sources_of};
+ghost use Rattle.sasi_treemerge.specs.Merges.{IsLeast, SpendsReads, held_of, is_left, last_after, sources_of};
 ghost use Rattle.sasi_indexread.specs.Searches.{CanSearch, FailsAsRead, IsSearching, NoFalseSearchDamage, NoFalseSearchingDamage, searching};
+ghost use Rattle.sasi_treemerge.specs.Held.{held_cmp};
 ghost use Rattle.sasi_treemerge.specs.Sources.{source_cmp};
 
 use crate::IndexFile;
@@ -21,8 +22,9 @@ use sasi_types::{Pair, Token};
 use std::alloc::Global;
 use std::marker::Model;
 
-/// A search of an index file. It collects the trees of the terms that are asked for at the first pair, and merges them: it keeps the
-/// next pair and one page of each in memory. After an error it isn't used again.
+/// A search of an index file. It collects the pairs of the terms that are asked for at the first pair, and merges them: it keeps those
+/// of trees of one node and of entries in memory, and of each larger tree the next pair and one page. In an index of the mode SPARSE
+/// it looks at each term of a range, and doesn't read the trees of superblocks yet. After an error it isn't used again.
 #[derive(Drop)]
 pub struct Search {
     alloc: Global,
@@ -63,7 +65,7 @@ fn keep_collected<H: Host, P: PageReader>(
     ensures damaged { IfErr result (DamageShown (H.view host.old) index.now.file (ShowsIndex index.now)) }
     ensures undamaged { IfErr result (NoFalseSearchDamage (H.view host.old) index.now) }
     ensures read { HasRead (P.agrees pages.new) (P.covers pages.old) (P.covers pages.new) (H.view host.old) (H.view host.new) index.now.file }
-    ensures causes { ReadCost (index.now.blocks.levels + 4 + 3 * 2 ^ 62) (H.view host.old) (H.view host.new) result }
+    ensures causes { ReadCost (index.now.blocks.levels + 512 + 511 * 2 ^ 62) (H.view host.old) (H.view host.new) result }
     ensures same { (merge.new.last ≡ merge.old.last) × (merge.new.floor ≡ merge.old.floor) }
 {
     if *is_collected {
@@ -115,6 +117,8 @@ impl Search {
         ensures file { result.merge.file ≡ index.file }
         ensures sources { sources_of result.merge ≡ [] }
         ensures heap { IsHeap source_cmp (sources_of result.merge) }
+        ensures held { held_of result.merge ≡ [] }
+        ensures held_heap { IsHeap held_cmp (held_of result.merge) }
         ensures last { result.merge.last ≡ None }
         ensures floor { result.merge.floor ≡ 0 }
     {

@@ -1,12 +1,13 @@
 -- Bytes written behind what a file holds.
-use Rattle.std.proofs.Common.{◌≡◌, ℕ, ◌+◌, ◌++◌, length, take, Some, sym, ◌∙◌, ap, subst, arith, [], append_assoc, length-append}
+use Rattle.std.proofs.Common.{◌≡◌, ℕ, ◌+◌, ◌++◌, length, take, Option, None, Some, refl, sym, ◌∙◌, ap, subst, arith, [], append_assoc, length-append}
 use Rattle.std.proofs.lemmas.List.{append-nil, drop_all, take_all}
+use Rattle.std.specs.Prelude.{IsSome}
 use Rattle.std.specs.FinMap.{get}
 use Rattle.sasi_host.specs.declared.name.FileName.{FileName}
 use Rattle.sasi_host.specs.Names.{Bytes}
-use Rattle.sasi_host.specs.View.{View, Holds}
+use Rattle.sasi_host.specs.View.{View, Holds, IsThere, Reaches, contents}
 use Rattle.sasi_host.specs.Disk.{Relation, Same, Changes, FileChange, InPlace, AnyChange, Becomes, overlay}
-use Rattle.sasi_host.proofs.ContentLaws.{told_before}
+use Rattle.sasi_host.proofs.ContentLaws.{contents_same, told_before}
 use Rattle.sasi_host.proofs.ChangeLaws.{changes_as}
 use Rattle.sasi_tokentree.specs.Writes.{Writes, KeepsBefore}
 use Rattle.sasi_indexwrite.specs.Appending.{IsAppending, next_tree}
@@ -27,6 +28,16 @@ holds_behind a b S file at bytes more change becomes is holds told =
 -- the same of what several calls wrote
 pub written_behind : (a b : View) (file : FileName) (at : ℕ) (bytes more : Bytes) → Writes a b file at more → length bytes ≡ at → Holds a file bytes → Holds b file (bytes ++ more)
 written_behind a b file at bytes more written is holds = holds_behind a b (FileChange file (InPlace (KeepsBefore at))) file at bytes more written.changes written.becomes is holds
+
+some_is : (o : Option Bytes) → IsSome o → (x : Bytes) × (o ≡ Some x)
+some_is None h = cc
+some_is (Some x) h = (x, refl)
+
+-- where a file ends it reaches
+pub reaches_end : (a b : View) (file : FileName) (at : ℕ) → Changes Same a b → IsThere a file → ((bytes : Bytes) → contents a file ≡ Some bytes → at ≡ length bytes) → Reaches b file at
+reaches_end a b file at same there size told =
+    let was = some_is (contents a file) (there (told_before Same a b same told)) in
+    (was.0, contents_same a b file same ∙ was.1, omega (arith, size was.0 was.1))
 
 -- a call that leaves the folder as it is
 pub touches_same : (a b : View) (file : FileName) → Changes Same a b → Changes (FileChange file AnyChange) a b

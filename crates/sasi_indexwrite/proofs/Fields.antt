@@ -9,6 +9,7 @@ use Rattle.sasi_types.specs.declared.mode.Mode.TheVariants.{Prefix, Contains, Sp
 use Rattle.sasi_host.specs.Names.{Bytes}
 use Rattle.sasi_formats.specs.Formats.{encoded}
 use Rattle.sasi_formats.specs.Headers.{file_front}
+use Rattle.sasi_termblocks.specs.Entries.{tree}
 use Rattle.sasi_indexwrite.specs.declared.footer.Footer.{Footer}
 use Rattle.sasi_indexwrite.specs.Format.{footer_bytes, header_bytes, magic}
 
@@ -36,9 +37,9 @@ header_put o a b c d first m k mode kind is mode_is kind_is front mode_put kind_
     regroup : (a b c d e : Bytes) → (((a ++ b) ++ c) ++ d) ++ e ≡ a ++ (b ++ (c ++ (d ++ e)))
     regroup a b c d e = simp append_assoc
 
-pub footer_put : (o a b c d e f : Bytes) (numbers : Footer) → o ≡ []
+pub footer_put : (o a b c d e : Bytes) (numbers : Footer)
     → a ≡ o ++ (to_be_bytes w64 numbers.blocks.first ++ (to_be_bytes w64 numbers.blocks.blocks ++ (to_be_bytes w64 numbers.blocks.levels ++ to_be_bytes w64 numbers.blocks.top)))
-    → b ≡ a ++ to_be_bytes w64 0 → c ≡ b ++ to_be_bytes w64 numbers.spill.root → d ≡ c ++ to_be_bytes w64 numbers.spill.pairs → e ≡ d ++ to_be_bytes w64 numbers.blocks.terms
-    → f ≡ e ++ (83 ∷ 65 ∷ 83 ∷ 73 ∷ 73 ∷ 69 ∷ 78 ∷ 68 ∷ []) → f ≡ footer_bytes numbers
+    → b ≡ a ++ to_be_bytes w64 numbers.table → c ≡ b ++ encoded tree numbers.spill → d ≡ c ++ to_be_bytes w64 numbers.blocks.terms
+    → e ≡ d ++ (83 ∷ 65 ∷ 83 ∷ 73 ∷ 73 ∷ 69 ∷ 78 ∷ 68 ∷ []) → e ≡ o ++ footer_bytes numbers
 unfolding footer_bytes
-footer_put o a b c d e f numbers none blocks table root pairs terms mark = rw (mark, terms, pairs, root, table, blocks, none) (simp append_assoc)
+footer_put o a b c d e numbers blocks table spill terms mark = rw (mark, terms, spill, table, blocks) (simp append_assoc)

@@ -1,5 +1,11 @@
 pub mod Lists
 pub mod Grouping
+pub mod Joined
+pub mod Numbering
+pub mod Groups
+pub mod SparseSteps
+pub mod AllTrees
+pub mod Storing
 pub mod Appends
 pub mod TermSteps
 pub mod Endings

@@ -22,6 +22,7 @@ pub record HasTaken (old new : View) (all left : List Posting) (was now : TermWr
   pub ready : CanStoreTerm now
   pub room : Reaches new now.trees.file now.trees.end
   pub file : now.trees.file ≡ was.trees.file
+  pub mode : now.mode ≡ was.mode
   pub changes : Changes (FileChange was.trees.file AnyChange) old new
   pub counts : KeepsCounts old new
 
@@ -35,6 +36,7 @@ none_taken v all writer spill keeps ready room = record {
   ready = ready;
   room = room;
   file = refl;
+  mode = refl;
   changes = untouched v writer.trees.file;
   counts = record { disk = refl; out = refl; reads = refl };
 }
@@ -49,8 +51,8 @@ follows_taken old new all left posting was now spill valid taken =
 pub one_more : (old mid new : View) (all left : List Posting) (posting : Posting) (was before now : TermWriter) (spill more : List Pair) → HasTaken old mid all (posting ∷ left) was before spill
     → ((so_far : TermsSoFar) → KeepsGathered before spill so_far → KeepsGathered now more (add so_far posting))
     → ((header : Bytes) (so_far : TermsSoFar) → KeepsGathered before spill so_far → HasWritten mid before header so_far.closed → HasWritten new now header (add so_far posting).closed)
-    → CanStoreTerm now → Reaches new now.trees.file now.trees.end → now.trees.file ≡ before.trees.file → Changes (FileChange before.trees.file AnyChange) mid new → KeepsCounts mid new → HasTaken old new all left was now more
-one_more old mid new all left posting was before now spill more taken keeps ok ready room file changes counts = record {
+    → CanStoreTerm now → Reaches new now.trees.file now.trees.end → now.trees.file ≡ before.trees.file → now.mode ≡ before.mode → Changes (FileChange before.trees.file AnyChange) mid new → KeepsCounts mid new → HasTaken old new all left was now more
+one_more old mid new all left posting was before now spill more taken keeps ok ready room file mode changes counts = record {
   done = taken.done ++ posting ∷ [];
   all_is = taken.all_is ∙ sym (append_assoc taken.done (posting ∷ []) left);
   keeps = subst (λ (s : TermsSoFar). KeepsGathered now more s) added (keeps (gathered taken.done) taken.keeps);
@@ -58,6 +60,7 @@ one_more old mid new all left posting was before now spill more taken keeps ok r
   ready = ready;
   room = room;
   file = file ∙ taken.file;
+  mode = mode ∙ taken.mode;
   changes = touches_on old mid new was.trees.file taken.changes (subst (λ f. Changes (FileChange f AnyChange) mid new) taken.file changes);
   counts = record {
     disk = counts.disk ∙ taken.counts.disk;

@@ -8,12 +8,13 @@ use Rattle.sasi_tokentree.specs.Format.{tree_bytes, tree_ref}
 use Rattle.sasi_tokentree.proofs.HeightLaws.{levels_least, tree_length}
 use Rattle.sasi_termblocks.specs.declared.term_entry.TermEntry.{TermEntry}
 use Rattle.sasi_termblocks.specs.Writing.{HasPushed}
+use Rattle.sasi_indexwrite.specs.declared.superblocks.Superblocks.{Superblocks}
 use Rattle.sasi_indexwrite.specs.declared.term_writer.TermWriter.{TermWriter}
 use Rattle.sasi_indexwrite.specs.Appending.{IsAppending, next_tree}
 use Rattle.sasi_indexwrite.specs.Content.{IsTerm, TermPairs}
 use Rattle.sasi_indexwrite.specs.Format.{entries_from, trees_bytes}
 use Rattle.sasi_indexwrite.specs.TermsSoFar.{with_pairs}
-use Rattle.sasi_indexwrite.specs.Writing.{HasWritten}
+use Rattle.sasi_indexwrite.specs.Writing.{HasTrees}
 use Rattle.sasi_indexwrite.proofs.Lists.{all_join}
 
 -- its tree stands behind the others
@@ -48,15 +49,16 @@ pub term_written : (a b : View) (old new : TermWriter) (term : Bytes) (tree : Tr
     → ((bytes : Bytes) → IsAppending a old.trees bytes → IsAppending b new.trees (bytes ++ tree_bytes (next_tree old.trees) old.pairs)) → next_tree new.trees ≡ next_tree old.trees + length (tree_bytes (next_tree old.trees) old.pairs)
     → tree ≡ tree_ref (next_tree old.trees) old.pairs → IsTerm (term, old.pairs)
     → ((entries : List TermEntry) → HasPushed old.blocks entries → HasPushed new.blocks (entries ++ record { term = term; list = Some tree; inline = None } ∷ []))
-    → HasWritten a old header closed → HasWritten b new header (closed ++ with_pairs term old.pairs)
-term_written a b old new term tree header closed appended next tree_is one pushed was =
-    subst (λ (l : List TermPairs). HasWritten b new header (closed ++ l)) (sym (with_some term old.pairs one.some)) (record {
-      begins = was.begins;
-      appended = subst (λ (l : Bytes). IsAppending b new.trees l) whole (appended (header ++ trees_bytes 16 closed) was.appended);
-      next_is = omega (arith, next, was.next_is, ap length trees, length-append (trees_bytes 16 closed) (tree_bytes at old.pairs));
-      pushed = subst (λ (l : List TermEntry). HasPushed new.blocks l) entries (pushed (entries_from 16 closed) was.pushed);
-      each = all_join IsTerm closed ((term, old.pairs) ∷ []) was.each (one, tt);
-    })
+    → new.groups ≡ old.groups → HasTrees a old header closed → HasTrees b new header (closed ++ (term, old.pairs) ∷ [])
+term_written a b old new term tree header closed appended next tree_is one pushed groups was = record {
+  begins = was.begins;
+  appended = subst (λ (l : Bytes). IsAppending b new.trees l) whole (appended (header ++ trees_bytes 16 closed) was.appended);
+  next_is = omega (arith, next, was.next_is, ap length trees, length-append (trees_bytes 16 closed) (tree_bytes at old.pairs));
+  pushed = subst (λ (l : List TermEntry). HasPushed new.blocks l) entries (pushed (entries_from 16 closed) was.pushed);
+  each = all_join IsTerm closed ((term, old.pairs) ∷ []) was.each (one, tt);
+  no_pairs = ap (λ (g : Superblocks). g.pairs) groups ∙ was.no_pairs;
+  no_table = ap (λ (g : Superblocks). g.trees.items) groups ∙ was.no_table;
+}
   where
     at : ℕ
     at = next_tree old.trees

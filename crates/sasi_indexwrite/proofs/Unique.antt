@@ -95,7 +95,7 @@ differs a b below = by_test (term_eq a b) refl
         absurd (let no : is_lt Equal ≡ true = sym (ap is_lt equal) ∙ below in cc)
     by_test false is = refl
 
-rising_tail : (term : Bytes) (terms : List Bytes) → AreRisingTerms (term ∷ terms) → AreRisingTerms terms
+pub rising_tail : (term : Bytes) (terms : List Bytes) → AreRisingTerms (term ∷ terms) → AreRisingTerms terms
 rising_tail term terms rising index lt =
     let e : suc index + 1 ≡ suc (index + 1) = omega arith in
     subst (λ (n : ℕ). is_below (get_or terms index []) (get_or (term ∷ terms) n []) ≡ true) e (rising (suc index) (omega (arith, lt)))

@@ -1,5 +1,5 @@
 -- What an index file holds.
-use Rattle.std.specs.Prelude.{◌≢◌, ◌≤◌, List, [], ◌++◌, length, map}
+use Rattle.std.specs.Prelude.{◌≡◌, ◌≢◌, ◌≤◌, List, [], ◌++◌, length, map}
 use Rattle.std.specs.List.{flat_map, AllByRecursion}
 use Rattle.sasi_types.specs.declared.column.ColumnType.{ColumnType}
 use Rattle.sasi_types.specs.declared.column.ColumnType.TheVariants.{Uuid}
@@ -35,12 +35,16 @@ pub record IsTerm (one : TermPairs) : Type 0 where
   pub some : 1 ≤ length one.1
   pub pairs : ArePairs one.1
 
+-- its pairs can stand in its entry
+abbrev pub HasFewPairs : TermPairs → Type 0
+HasFewPairs one = length one.1 ≤ 5
+
 abbrev pub terms_in : List TermPairs → List Bytes
 terms_in = map (λ (one : TermPairs). one.0)
 
--- Terms rise by their bytes, and pairs by token and place. A uuid has no terms, and an index of the mode SPARSE isn't built yet.
+-- Terms rise by their bytes, and pairs by token and place. A uuid has no terms, and in the mode SPARSE a term has five pairs at most.
 pub record IsContent (content : IndexContent) : Type 0 where
-  pub built : content.mode ≢ Sparse
+  pub few : content.mode ≡ Sparse → AllByRecursion HasFewPairs content.terms
   pub has_terms : content.kind ≢ Uuid
   pub rising : AreRisingTerms (terms_in content.terms)
   pub each : AllByRecursion IsTerm content.terms

@@ -1,7 +1,12 @@
 pub mod Content
+pub mod Unions
+pub mod Superblocks
+pub mod Stored
 pub mod Format
 pub mod Files
 pub mod TermsSoFar
 pub mod Appending
+pub mod Grouped
+pub mod Kept
 pub mod Writing
 pub mod Causes

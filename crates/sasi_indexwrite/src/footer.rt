@@ -1,17 +1,21 @@
 // The footer of an index file.
-ghost use Rattle.std.specs.Prelude.{◌≡◌, ◌++◌, IfOk, OnOk};
+ghost use Rattle.std.specs.Prelude.{◌≡◌, ◌++◌, OnOk};
 ghost use Rattle.std.specs.Int.{to_be_bytes, w64};
+ghost use Rattle.sasi_formats.specs.Formats.{encoded};
+ghost use Rattle.sasi_termblocks.specs.Entries as format;
 ghost use Rattle.sasi_indexwrite.specs.Format.{footer_bytes};
 
 use sasi_fields::{put_bytes, put_u64};
 use sasi_termblocks::BlockRef;
 use sasi_types::TreeRef;
-use std::alloc::{AllocError, Global};
+use std::alloc::AllocError;
 
 /// The numbers of a footer: where the blocks stand, and the spill tree.
 #[derive(Clone, Copy)]
 pub struct Footer {
     pub blocks: BlockRef,
+    /// Where the table of superblocks stands; 0 where there is none.
+    pub table: u64,
     pub spill: TreeRef,
 }
 
@@ -26,16 +30,22 @@ fn put_blocks(out: &mut Vec<u8>, blocks: BlockRef) -> Result<(), AllocError>
     Ok(())
 }
 
-// The numbers of a footer, and the mark behind them.
-pub fn footer_bytes(alloc: Global, footer: Footer) -> Result<Vec<u8>, AllocError>
-    ensures { IfOk result (λ bytes. bytes.items ≡ footer_bytes footer) }
+// Appends the root of a tree, and its number of pairs.
+pub fn put_ref(out: &mut Vec<u8>, tree: TreeRef) -> Result<(), AllocError>
+    ensures { OnOk result (out.new.items ≡ out.old.items ++ encoded format.tree tree) }
 {
-    let mut bytes = Vec::new(alloc);
-    put_blocks(&mut bytes, footer.blocks)?;
-    put_u64(&mut bytes, 0)?;
-    put_u64(&mut bytes, footer.spill.root)?;
-    put_u64(&mut bytes, footer.spill.pairs)?;
-    put_u64(&mut bytes, footer.blocks.terms)?;
-    put_bytes(&mut bytes, b"SASIIEND")?;
-    Ok(bytes)
+    put_u64(out, tree.root)?;
+    put_u64(out, tree.pairs)
+}
+
+// Appends the numbers of a footer, and the mark behind them.
+pub fn put_footer(out: &mut Vec<u8>, footer: Footer) -> Result<(), AllocError>
+    ensures { OnOk result (out.new.items ≡ out.old.items ++ footer_bytes footer) }
+{
+    put_blocks(out, footer.blocks)?;
+    put_u64(out, footer.table)?;
+    put_ref(out, footer.spill)?;
+    put_u64(out, footer.blocks.terms)?;
+    put_bytes(out, b"SASIIEND")?;
+    Ok(())
 }

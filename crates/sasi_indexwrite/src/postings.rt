@@ -29,6 +29,7 @@ fn add_posting<H: Host>(
     ensures ready { OnOk result (CanStoreTerm writer.new) }
     ensures room { OnOk result (Reaches (H.view host.new) writer.new.trees.file writer.new.trees.end) }
     ensures file { writer.new.trees.file ≡ writer.old.trees.file }
+    ensures mode { writer.new.mode ≡ writer.old.mode }
     ensures changes { Changes (FileChange writer.old.trees.file AnyChange) (H.view host.old) (H.view host.new) }
     ensures causes { ListCauses (H.view host.old) (H.view host.new) result }
 {
@@ -56,6 +57,7 @@ pub fn add_postings<H: Host>(
     ensures ready { OnOk result (CanStoreTerm writer.new) }
     ensures room { OnOk result (Reaches (H.view host.new) writer.new.trees.file writer.new.trees.end) }
     ensures file { writer.new.trees.file ≡ writer.old.trees.file }
+    ensures mode { writer.new.mode ≡ writer.old.mode }
     ensures changes { Changes (FileChange writer.old.trees.file AnyChange) (H.view host.old) (H.view host.new) }
     ensures causes { WriteCauses (H.view host.old) (H.view host.new) result }
 {

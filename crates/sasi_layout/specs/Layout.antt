@@ -1,9 +1,7 @@
 -- What a store holds, part by part: in files that the manifest lists, and in maps that aren't in a file yet.
-use Rattle.std.specs.Prelude.{◌≡◌, ℕ, suc, max, nat_eq, Bool, true, false, if◌then◌else◌, List, [], ◌∷◌, ◌++◌, map, Option, None, Some}
-use Rattle.std.specs.List.{filter, zip}
+use Rattle.std.specs.Prelude.{◌≡◌, ℕ, suc, max, nat_eq, if◌then◌else◌, List, [], ◌∷◌, ◌++◌, map, Option, None, Some}
+use Rattle.std.specs.List.{zip}
 use Rattle.std.specs.Ordering.{nat_cmp}
-use Rattle.sasi_types.specs.declared.mode.Mode.{Mode}
-use Rattle.sasi_types.specs.declared.mode.Mode.TheVariants.{Prefix, Contains, Sparse}
 use Rattle.sasi_types.specs.declared.partitioner.Partitioner.{Partitioner}
 use Rattle.sasi_cells.specs.Maps.{merged}
 use Rattle.sasi_model.specs.State.{Definition, Index, State, Table}
@@ -65,19 +63,13 @@ numbered n number (x ∷ xs) = if nat_eq n number then Some x else numbered (suc
 
 -- ---- indexes
 
--- a flush writes the index file of an index of this mode; those of the mode Sparse aren't built yet
-abbrev pub is_built : Mode → Bool
-is_built Prefix = true
-is_built Contains = true
-is_built Sparse = false
-
 -- the indexes with their numbers
 abbrev pub numbered_indexes : TableParts → List (ℕ × Index)
 numbered_indexes t = zip t.numbers t.definition.indexes
 
--- the numbers of those of which a flush writes a file, rising
-abbrev pub built_numbers : TableParts → List ℕ
-built_numbers t = sort nat_cmp (map (λ (n : ℕ × Index). n.0) (filter (λ (n : ℕ × Index). is_built n.1.mode) (numbered_indexes t)))
+-- their numbers, rising: a flush writes a file of each
+abbrev pub rising_numbers : TableParts → List ℕ
+rising_numbers t = sort nat_cmp t.numbers
 
 -- a part of each index of these numbers, in their order, after the last used one
 abbrev pub drawn : ℕ → List ℕ → List PartNumber

@@ -16,7 +16,7 @@ use Rattle.sasi_manifest.specs.declared.files.ListedFile.{ListedFile}
 use Rattle.sasi_manifest.specs.declared.files.PartNumber.{PartNumber}
 use Rattle.sasi_manifest.specs.Edits.{encoded}
 use Rattle.sasi_manifest.specs.Listings.{index_edit}
-use Rattle.sasi_layout.specs.Layout.{File, Layout, TableParts, built_numbers, drawn, numbered, unflushed}
+use Rattle.sasi_layout.specs.Layout.{File, Layout, TableParts, rising_numbers, drawn, numbered, unflushed}
 
 -- the first, and else the second
 abbrev pub or_else : Option ℕ → Option ℕ → Option ℕ
@@ -49,7 +49,7 @@ new_listed_file number parts = record { number = number; parts = parts }
 
 -- the parts that a flush of the table draws after the last used one: one for each index whose file it writes, in the order of their numbers
 abbrev pub parts_drawn : ℕ → TableParts → List PartNumber
-parts_drawn part t = drawn part (built_numbers t)
+parts_drawn part t = drawn part (rising_numbers t)
 
 -- those that a flush of the table with this number draws
 abbrev pub flush_parts : ℕ → Layout → List PartNumber

@@ -8,7 +8,7 @@ ghost use Rattle.sasi_machine_layout.specs.Contents.{HasTable, IsContents, layou
 ghost use Rattle.sasi_machine_layout.specs.Draws.{IsDrawn, IsStored, IsUntouched};
 
 use crate::contents::{Contents, FileContents, TableContents};
-use crate::draws::{built_numbers, draw_parts, floor_without, last_part};
+use crate::draws::{draw_parts, floor_without, last_part, rising_numbers};
 use crate::records::{length_with, number_after, record_after};
 use sasi_host::{DataNumber, SegmentNumber};
 use sasi_manifest::{Edit, EditList, ListedFile, ListedFiles, NumberList, PartNumbers};
@@ -71,26 +71,26 @@ fn draw(contents: &Contents, table: TableNumber) -> Result<Drawn, AllocError>
     requires there { HasTable contents.now table }
     ensures { IfOk result (IsDrawn table (layout_of contents.now)) }
 {
-    let built = built_in(contents, table)?;
-    draw_with(contents, table, &built)
+    let rising = rising_in(contents, table)?;
+    draw_with(contents, table, &rising)
 }
 
-// The same where files of the indexes of these numbers are built.
-fn draw_with(contents: &Contents, table: TableNumber, built: &[u32]) -> Result<Drawn, AllocError>
+// The same for indexes of these numbers.
+fn draw_with(contents: &Contents, table: TableNumber, rising: &[u32]) -> Result<Drawn, AllocError>
     requires contents { IsContents contents.now }
-    requires built { drawn contents.now.part built.now ≡ flush_parts table (layout_of contents.now) }
+    requires drawn { drawn contents.now.part rising.now ≡ flush_parts table (layout_of contents.now) }
     ensures { IfOk result (IsDrawn table (layout_of contents.now)) }
 {
     let alloc = contents.alloc;
     let number = number_after(contents.data)?;
     let last = number_after(contents.last)?;
     let records = record_after(contents.records)?;
-    let part = last_part(contents.part, built.len())?;
+    let part = last_part(contents.part, rising.len())?;
     let floor = floor_without(1, &contents.tables, table, last);
-    let parts = draw_parts(alloc, built, contents.part)?;
+    let parts = draw_parts(alloc, rising, contents.part)?;
     let edits = flush_edits(alloc, table, number, parts, floor, last)?;
     let length = length_with(contents.length, &edits)?;
-    let parts = draw_parts(alloc, built, contents.part)?;
+    let parts = draw_parts(alloc, rising, contents.part)?;
     Ok(Drawn {
         listed: ListedFile { number, parts },
         part,
@@ -101,14 +101,14 @@ fn draw_with(contents: &Contents, table: TableNumber, built: &[u32]) -> Result<D
     })
 }
 
-// The numbers of those indexes of the table whose files a flush writes, rising.
-fn built_in(contents: &Contents, table: TableNumber) -> Result<Vec<u32>, AllocError>
+// The numbers of the table's indexes, rising.
+fn rising_in(contents: &Contents, table: TableNumber) -> Result<Vec<u32>, AllocError>
     requires contents { IsContents contents.now }
     requires there { HasTable contents.now table }
     ensures { IfOk result (λ numbers. drawn contents.now.part numbers.items ≡ flush_parts table (layout_of contents.now)) }
 {
     let tables = contents.schema.tables();
-    built_numbers(
+    rising_numbers(
         contents.alloc,
         tables[table as usize - 1].indexes.as_slice(),
     )

@@ -14,6 +14,7 @@ use Rattle.sasi_host.specs.Disk.{AnyChange, Changes, FileChange, IsSynced, Same,
 use Rattle.sasi_host.proofs.ChangeLaws.{changes_as, stays, step_within, within_on}
 use Rattle.sasi_indexwrite.proofs.Lists.{all_join}
 use Rattle.sasi_indexwrite.specs.Files.{HoldsIndex}
+use Rattle.sasi_indexwrite.specs.Stored.{stored}
 use Rattle.sasi_indexwrite.specs.TermsSoFar.{AreSortedPostings}
 use Rattle.sasi_manifest.specs.declared.files.ListedFile.{ListedFile}
 use Rattle.sasi_manifest.specs.declared.files.PartNumber.{PartNumber}
@@ -116,7 +117,7 @@ module _ (start now : View) (number : ℕ) (all left : List GatheredIndex) (part
         (step_within (is_index_of (record { number = number; parts = parts })) (index_name number (get_or parts at d)) AnyChange now next file_is_mine change)
 
     -- and then one more is
-    pub written_more : IsStrictlySortedBy nat_cmp (numbers parts) → HoldsIndex next (index_name number (get_or parts at d)) taken.def.mode taken.def.kind taken.postings
+    pub written_more : IsStrictlySortedBy nat_cmp (numbers parts) → HoldsIndex next (index_name number (get_or parts at d)) taken.def.mode taken.def.kind (stored taken.def.mode taken.postings)
         → IsSynced next (index_name number (get_or parts at d)) → IsQuiet now next → HasWritten start next number all rest parts (at + 1)
     written_more rises holds synced quiet =
         let part = get_or parts at d in

@@ -20,7 +20,7 @@ use Rattle.sasi_datawrite.specs.Format.{Content, front}
 use Rattle.sasi_datawrite.specs.Writing.{IsWriting, Writer}
 use Rattle.sasi_indexwrite.specs.TermsSoFar.{AreSortedPostings}
 use Rattle.sasi_indexwrite.proofs.Callers.{none_gathered}
-use Rattle.sasi_postings.specs.Postings.{AreGathered, postings_at, with_postings}
+use Rattle.sasi_postings.specs.Postings.{AreGathered, is_short, postings_at, with_postings}
 use Rattle.sasi_postings.proofs.Contents.{postings_none, postings_push}
 use Rattle.sasi_postings.proofs.Terms.{gathered_with}
 use Rattle.sasi_pairs.specs.Gathered.{GatheredIndex, IsBuilt, defs_of, fresh, with_partition}
@@ -44,8 +44,8 @@ pub postings_with : (v : View) (writer : Writer) (content : Content) (key : Byte
     → AllByRecursion (HasPostings writer.partitioner (content ++ (key, part) ∷ [])) (map (with_partition (record { token = token_of writer.partitioner key; place = writer.offset }) part) indexes)
 postings_with v writer content key part [] writing all = tt
 postings_with v writer content key part (i ∷ indexes) writing all = (
-  ap (λ (n : ℕ). with_postings i.postings (postings_at i.def.column i.def.rule (pair_at n) part)) writing.offset_is
-      ∙ ap (λ (l : List Posting). with_postings l (postings_at i.def.column i.def.rule (pair_at (length (front content))) part)) all.0
+  ap (λ (n : ℕ). with_postings i.postings (postings_at is_short i.def.column i.def.rule (pair_at n) part)) writing.offset_is
+      ∙ ap (λ (l : List Posting). with_postings l (postings_at is_short i.def.column i.def.rule (pair_at (length (front content))) part)) all.0
       ∙ sym (postings_push writer.partitioner i.def.column i.def.rule content key part),
   postings_with v writer content key part indexes writing all.1,
 )
@@ -83,7 +83,7 @@ gathered_push : (token place next : ℕ) (part : Partition) (indexes : List Gath
     → AllByRecursion (λ i. AreGathered i.postings next) (map (with_partition (record { token = token; place = place }) part) indexes)
 gathered_push token place next part [] lt all = tt
 gathered_push token place next part (i ∷ indexes) lt all =
-    (gathered_with i.postings (record { token = token; place = place }) (terms_of_cell i.def.rule (map_.get part.cells i.def.column)) next lt all.0, gathered_push token place next part indexes lt all.1)
+    (gathered_with is_short (λ term short. short) i.postings (record { token = token; place = place }) (terms_of_cell i.def.rule (map_.get part.cells i.def.column)) next lt all.0, gathered_push token place next part indexes lt all.1)
 
 -- and where one more partition was pushed
 pub keeps_push : (file : FileName) (old new : Writer) (indexes items : List GatheredIndex) (token : ℕ) (part : Partition) → KeepsPostings file old indexes true → new.file ≡ old.file → defs_of items ≡ defs_of indexes

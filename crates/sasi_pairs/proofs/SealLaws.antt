@@ -11,9 +11,11 @@ use Rattle.sasi_host.specs.Disk.{AnyChange, Changes, FileChange, IsFolderSynced,
 use Rattle.sasi_host.proofs.ContentLaws.{contents_kept, holds_where}
 use Rattle.sasi_datawrite.specs.Format.{Content, data_bytes}
 use Rattle.sasi_indexwrite.specs.Files.{IsIndexOf}
+use Rattle.sasi_indexwrite.specs.Stored.{stored}
 use Rattle.sasi_indexwrite.proofs.Lists.{all_at}
 use Rattle.sasi_manifest.specs.declared.files.PartNumber.{PartNumber}
 use Rattle.sasi_manifest.specs.ListedFiles.{index_name}
+use Rattle.sasi_postings.proofs.Modes.{stored_are}
 use Rattle.sasi_pairs.specs.Gathered.{GatheredIndex, defs_of}
 use Rattle.sasi_pairs.specs.PairViews.{HasPostings, IsPairing, PairView}
 use Rattle.sasi_pairs.specs.SealedFiles.{AreAbsent, AreDurable, HasDurableIndex, HasSyncedIndex, is_index_of}
@@ -56,7 +58,10 @@ module _ (a b : View) (sound : IsSound b) (same : Changes Same a b) (folder : Is
     listed = def_contained indexes has.index has.listed;
     numbered = has.numbered;
     bytes = has.holds.bytes;
-    stands = subst (λ postings. IsIndexOf has.index.def.mode has.index.def.kind postings has.holds.bytes) (all_contained (HasPostings partitioner content) indexes has.index pairing has.listed) has.holds.is_index;
+    stands = subst (λ postings. IsIndexOf has.index.def.mode has.index.def.kind postings has.holds.bytes)
+        (ap (stored has.index.def.mode) (all_contained (HasPostings partitioner content) indexes has.index pairing has.listed)
+        ∙ stored_are partitioner has.index.def.column has.index.def.rule content has.index.def.mode)
+        has.holds.is_index;
     kept = synced_durable a b (index_name number p) has.holds.bytes sound same has.synced folder has.holds.holds;
   }
 

@@ -4,13 +4,12 @@ use Rattle.std.specs.FinMap as map_
 use Rattle.sasi_types.specs.declared.class.Class.{Class}
 use Rattle.sasi_types.specs.declared.column.ColumnType.TheVariants.{Uuid}
 use Rattle.sasi_types.specs.declared.index_def.IndexDef.{IndexDef}
-use Rattle.sasi_types.specs.declared.mode.Mode.TheVariants.{Sparse}
 use Rattle.sasi_types.specs.declared.tree.Pair.{Pair}
 use Rattle.sasi_model.specs.Cells.{Partition}
 use Rattle.sasi_memindex.specs.Book.{IsMissing}
 use Rattle.sasi_memindex.specs.IndexedValues.{IsCellOf}
 use Rattle.sasi_segments.specs.declared.posting.Posting.{Posting}
-use Rattle.sasi_postings.specs.Postings.{postings_at, with_postings}
+use Rattle.sasi_postings.specs.Postings.{is_short, postings_at, with_postings}
 
 -- an index, and its postings so far
 pub record GatheredIndex : Type 0 where
@@ -25,9 +24,8 @@ defs_of indexes = map (λ i. i.def) indexes
 abbrev pub fresh : IndexDef → GatheredIndex
 fresh def = record { def = def; postings = [] }
 
--- an index that can be built: a uuid has no terms, and one of the mode Sparse isn't built yet
+-- an index that can be built, of whichever mode: a uuid has no terms
 pub record IsBuilt (def : IndexDef) : Type 0 where
-  pub mode : def.mode ≢ Sparse
   pub kind : def.kind ≢ Uuid
 
 -- ---- one more partition
@@ -41,7 +39,7 @@ CanTake part i = CanIndex part i.def
 
 -- with the postings of the partition, which the key tree has at this pair
 abbrev pub with_partition : Pair → Partition → GatheredIndex → GatheredIndex
-with_partition pair part i = record i { postings = with_postings i.postings (postings_at i.def.column i.def.rule pair part) }
+with_partition pair part i = record i { postings = with_postings i.postings (postings_at is_short i.def.column i.def.rule pair part) }
 
 -- the terms of one of the indexes are made by an analyzer of this class, and no object is one
 pub record LacksClass (classes : List Class) (defs : List IndexDef) (class : Class) : Type 0 where

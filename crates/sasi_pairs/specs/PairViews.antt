@@ -7,7 +7,7 @@ use Rattle.sasi_host.specs.Names.{data_name}
 use Rattle.sasi_host.specs.View.{View}
 use Rattle.sasi_datawrite.specs.Format.{Content}
 use Rattle.sasi_datawrite.specs.Writing.{IsWriting, Writer}
-use Rattle.sasi_postings.specs.Postings.{AreGathered, index_postings}
+use Rattle.sasi_postings.specs.Postings.{AreGathered, gathered_postings}
 use Rattle.sasi_pairs.specs.Gathered.{GatheredIndex, IsBuilt}
 
 -- the view of a writer
@@ -16,9 +16,9 @@ pub record PairView : Type 0 where
   pub writer : Writer
   pub indexes : List GatheredIndex
 
--- the index has exactly the postings of this content
+-- the index has gathered exactly the postings of this content
 abbrev pub HasPostings : Partitioner → Content → GatheredIndex → Type 0
-HasPostings partitioner content i = i.postings ≡ index_postings partitioner i.def.column i.def.rule content
+HasPostings partitioner content i = i.postings ≡ gathered_postings partitioner i.def.column i.def.rule content
 
 -- **The writer has written this content to the data file, and each index has its postings.**
 pub record IsPairing (v : View) (pair : PairView) (content : Content) : Type 0 where

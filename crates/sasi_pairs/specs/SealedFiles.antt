@@ -10,6 +10,7 @@ use Rattle.sasi_host.specs.View.{View, IsAbsent}
 use Rattle.sasi_host.specs.Disk.{FileChange, IsFileDurable, IsSynced, LeftWith}
 use Rattle.sasi_datawrite.specs.Format.{Content, data_bytes}
 use Rattle.sasi_indexwrite.specs.Files.{HoldsIndex}
+use Rattle.sasi_indexwrite.specs.Stored.{stored}
 use Rattle.sasi_manifest.specs.declared.edit.Edit.{Edit}
 use Rattle.sasi_manifest.specs.declared.edit.Edit.TheVariants.{Replace}
 use Rattle.sasi_manifest.specs.declared.files.ListedFile.{ListedFile}
@@ -47,12 +48,12 @@ AreDefined defs parts = AllByRecursion (λ p. list_any (λ def. nat_eq p.index d
 abbrev pub AreAbsent : View → ℕ → List PartNumber → Type 0
 AreAbsent v number parts = AllByRecursion (λ p. IsAbsent v (index_name number p)) parts
 
--- the index file of this part holds the postings of one of these indexes, and is synced
+-- the index file of this part holds what an index of its mode keeps of the postings of one of these indexes, and is synced
 pub record HasSyncedIndex (v : View) (number : ℕ) (indexes : List GatheredIndex) (p : PartNumber) : Type 0 where
   pub index : GatheredIndex
   pub listed : Contains indexes index
   pub numbered : index.def.number ≡ p.index
-  pub holds : HoldsIndex v (index_name number p) index.def.mode index.def.kind index.postings
+  pub holds : HoldsIndex v (index_name number p) index.def.mode index.def.kind (stored index.def.mode index.postings)
   pub synced : IsSynced v (index_name number p)
 
 -- the index file of this part is durable: it is that of one of these definitions, for the data file of this content

@@ -9,6 +9,7 @@ ghost use Rattle.sasi_memindex.specs.Book.{IsMissing};
 ghost use Rattle.sasi_memindex.specs.IndexedValues.{live_value};
 ghost use Rattle.sasi_indexwrite.specs.Causes.{WriteCauses};
 ghost use Rattle.sasi_indexwrite.specs.Files.{HoldsIndex};
+ghost use Rattle.sasi_indexwrite.specs.Stored.{stored};
 ghost use Rattle.sasi_indexwrite.specs.TermsSoFar.{AreSortedPostings};
 ghost use Rattle.sasi_pairs.specs.Gathered.{CanTake, IsBuilt, fresh, with_partition};
 
@@ -77,7 +78,7 @@ impl IndexBuilder {
         add_postings(alloc, &mut self.gather, self.def.rule, value, pair, kit)
     }
 
-    /// Writes the index file, and syncs it.
+    /// Writes the index file with what its mode keeps of the postings, and syncs it.
     pub fn write<H: Host>(
         self,
         alloc: Global,
@@ -87,7 +88,7 @@ impl IndexBuilder {
         requires built { IsBuilt self.def }
         requires gathered { AreSortedPostings self.postings }
         requires absent { IsAbsent (H.view host.old) file }
-        ensures ok { OnOk result (HoldsIndex (H.view host.new) file self.def.mode self.def.kind self.postings) }
+        ensures ok { OnOk result (HoldsIndex (H.view host.new) file self.def.mode self.def.kind (stored self.def.mode self.postings)) }
         ensures synced { OnOk result (IsSynced (H.view host.new) file) }
         ensures changes { Changes (FileChange file AnyChange) (H.view host.old) (H.view host.new) }
         ensures causes { WriteCauses (H.view host.old) (H.view host.new) result }

@@ -49,18 +49,19 @@ module _ (P : Bytes → Type 0) where
   all_once [] all = tt
   all_once (term ∷ terms) all = all_once_from term terms all.0 all.1
 
--- each of them is short
-short_filtered : (terms : List Bytes) → AllByRecursion (λ term. length term ≤ 1024) (filter is_short terms)
-short_filtered [] = tt
-short_filtered (term ∷ terms) = by (is_short term) refl (short_filtered terms)
-  where
-    by : (b : Bool) → is_short term ≡ b → AllByRecursion (λ t. length t ≤ 1024) (filter is_short terms) → AllByRecursion (λ t. length t ≤ 1024) (if b then term ∷ filter is_short terms else filter is_short terms)
-    by true is rest = (leb-true (length term) 1024 is, rest)
-    by false is rest = rest
+-- each of them is short, where only short ones are kept
+module _ (kept : Bytes → Bool) (shorter : (term : Bytes) → kept term ≡ true → is_short term ≡ true) where
+  kept_filtered : (terms : List Bytes) → AllByRecursion (λ term. length term ≤ 1024) (filter kept terms)
+  kept_filtered [] = tt
+  kept_filtered (term ∷ terms) = by (kept term) refl (kept_filtered terms)
+    where
+      by : (b : Bool) → kept term ≡ b → AllByRecursion (λ t. length t ≤ 1024) (filter kept terms) → AllByRecursion (λ t. length t ≤ 1024) (if b then term ∷ filter kept terms else filter kept terms)
+      by true is rest = (leb-true (length term) 1024 (shorter term is), rest)
+      by false is rest = rest
 
-pub short_distinct : (terms : List Bytes) → AllByRecursion (λ term. length term ≤ 1024) (distinct (filter is_short terms))
-short_distinct terms =
-    all_once (λ term. length term ≤ 1024) (sort term_cmp (filter is_short terms)) (all_sorted (λ term. length term ≤ 1024) (filter is_short terms) (short_filtered terms))
+  pub kept_distinct : (terms : List Bytes) → AllByRecursion (λ term. length term ≤ 1024) (distinct (filter kept terms))
+  kept_distinct terms =
+      all_once (λ term. length term ≤ 1024) (sort term_cmp (filter kept terms)) (all_sorted (λ term. length term ≤ 1024) (filter kept terms) (kept_filtered terms))
 
 -- and they rise
 pub distinct_rises : (terms : List Bytes) → IsStrictlySortedBy term_cmp (distinct terms)
@@ -132,13 +133,13 @@ seen_postings f pair (x ∷ xs) = ap (λ (l : List Posting). posting_of (f x) St
 
 -- the stored ones first, and then that of the spill
 pub added_both : {X E : Type 0} (f : X → Bytes) (xs : List X) (terms : List Bytes) (pair : Pair) (old mid new : Gathering) (result : Result (Unit {0}) E) → map f xs ≡ distinct (filter is_short terms)
-    → mid ≡ record old { postings = with_postings old.postings (map (λ (x : X). posting_of (f x) Stored pair) xs) } → OnOk result (new ≡ record mid { postings = with_postings mid.postings (spill_postings pair terms) })
-    → OnOk result (new ≡ record old { postings = with_postings old.postings (postings_of pair terms) })
+    → mid ≡ record old { postings = with_postings old.postings (map (λ (x : X). posting_of (f x) Stored pair) xs) } → OnOk result (new ≡ record mid { postings = with_postings mid.postings (spill_postings is_short pair terms) })
+    → OnOk result (new ≡ record old { postings = with_postings old.postings (postings_of is_short pair terms) })
 added_both f xs terms pair old mid new (Err fault) is first second = tt
 added_both {X} f xs terms pair old mid new (Ok done) is first second =
-    second ∙ ap (λ (g : Gathering). record g { postings = with_postings g.postings (spill_postings pair terms) }) first
-    ∙ ap (λ (l : List Posting). record old { postings = l }) (with_both old.postings (map (λ (x : X). posting_of (f x) Stored pair) xs) (spill_postings pair terms)
-    ∙ ap (λ (l : List Posting). with_postings old.postings (l ++ spill_postings pair terms)) (seen_postings f pair xs ∙ ap (stored pair) is))
+    second ∙ ap (λ (g : Gathering). record g { postings = with_postings g.postings (spill_postings is_short pair terms) }) first
+    ∙ ap (λ (l : List Posting). record old { postings = l }) (with_both old.postings (map (λ (x : X). posting_of (f x) Stored pair) xs) (spill_postings is_short pair terms)
+    ∙ ap (λ (l : List Posting). with_postings old.postings (l ++ spill_postings is_short pair terms)) (seen_postings f pair xs ∙ ap (stored pair) is))
 
 not_less : (a b : Bytes) → term_cmp a b ≡ Less → b ≡ a → ⊥
 not_less a b less same =
@@ -172,8 +173,8 @@ differ b pair (term ∷ terms) rises = (
 )
 
 -- none is there twice
-pub postings_differ : (pair : Pair) (terms : List Bytes) → Differ (postings_of pair terms)
-postings_differ pair terms = differ (list_any (λ term. not (is_short term)) terms) pair (distinct (filter is_short terms)) (distinct_rises (filter is_short terms))
+postings_differ : (kept : Bytes → Bool) (pair : Pair) (terms : List Bytes) → Differ (postings_of kept pair terms)
+postings_differ kept pair terms = differ (list_any (λ term. not (kept term)) terms) pair (distinct (filter kept terms)) (distinct_rises (filter kept terms))
 
 stored_posting : (pair : Pair) (terms : List Bytes) → AllByRecursion (λ term. length term ≤ 1024) terms → AllByRecursion IsPosting (stored pair terms)
 stored_posting pair [] all = tt
@@ -182,12 +183,6 @@ stored_posting pair (term ∷ terms) all = (record { short = all.0; spill = λ i
 spilled_posting : (b : Bool) (pair : Pair) → AllByRecursion IsPosting (spilled b pair)
 spilled_posting true pair = (record { short = omega arith; spill = λ is. refl }, tt)
 spilled_posting false pair = tt
-
--- each can be stored
-pub postings_each : (pair : Pair) (terms : List Bytes) → AllByRecursion IsPosting (postings_of pair terms)
-postings_each pair terms =
-    all_join IsPosting (stored_postings pair terms) (spill_postings pair terms) (stored_posting pair (distinct (filter is_short terms)) (short_distinct terms))
-    (spilled_posting (list_any (λ term. not (is_short term)) terms) pair)
 
 stored_at : (pair : Pair) (terms : List Bytes) → AllByRecursion (λ p. p.pair.place ≡ pair.place) (stored pair terms)
 stored_at pair [] = tt
@@ -198,19 +193,25 @@ spilled_at true pair = (refl, tt)
 spilled_at false pair = tt
 
 -- and each is at the pair's offset
-pub postings_place : (pair : Pair) (terms : List Bytes) → AllByRecursion (λ p. p.pair.place ≡ pair.place) (postings_of pair terms)
-postings_place pair terms =
-    all_join (λ p. p.pair.place ≡ pair.place) (stored_postings pair terms) (spill_postings pair terms) (stored_at pair (distinct (filter is_short terms)))
-    (spilled_at (list_any (λ term. not (is_short term)) terms) pair)
+postings_place : (kept : Bytes → Bool) (pair : Pair) (terms : List Bytes) → AllByRecursion (λ p. p.pair.place ≡ pair.place) (postings_of kept pair terms)
+postings_place kept pair terms =
+    all_join (λ p. p.pair.place ≡ pair.place) (stored_postings kept pair terms) (spill_postings kept pair terms) (stored_at pair (distinct (filter kept terms)))
+    (spilled_at (list_any (λ term. not (kept term)) terms) pair)
 
--- ---- with those of partitions in front of it
+module _ (kept : Bytes → Bool) (shorter : (term : Bytes) → kept term ≡ true → is_short term ≡ true) where
+  -- each can be stored
+  postings_each : (pair : Pair) (terms : List Bytes) → AllByRecursion IsPosting (postings_of kept pair terms)
+  postings_each pair terms =
+      all_join IsPosting (stored_postings kept pair terms) (spill_postings kept pair terms) (stored_posting pair (distinct (filter kept terms)) (kept_distinct kept shorter terms))
+      (spilled_posting (list_any (λ term. not (kept term)) terms) pair)
 
--- one partition more can be written too
-pub gathered_with : (all : List Posting) (pair : Pair) (terms : List Bytes) (next : ℕ) → pair.place < next → AreGathered all pair.place → AreGathered (with_postings all (postings_of pair terms)) next
-gathered_with all pair terms next lt old = record {
-  sorted = sorted_with all (postings_of pair terms) old.sorted (postings_each pair terms) (postings_differ pair terms) (new_at pair.place all (postings_of pair terms) old.below (postings_place pair terms));
-  below = all_with (λ p. p.pair.place < next) all (postings_of pair terms) (below_more pair.place next all (omega (arith, lt)) old.below) (below_at pair.place next (postings_of pair terms) lt (postings_place pair terms));
-}
+  -- one partition more can be written too
+  pub gathered_with : (all : List Posting) (pair : Pair) (terms : List Bytes) (next : ℕ) → pair.place < next → AreGathered all pair.place
+      → AreGathered (with_postings all (postings_of kept pair terms)) next
+  gathered_with all pair terms next lt old = record {
+    sorted = sorted_with all (postings_of kept pair terms) old.sorted (postings_each pair terms) (postings_differ kept pair terms) (new_at pair.place all (postings_of kept pair terms) old.below (postings_place kept pair terms));
+    below = all_with (λ p. p.pair.place < next) all (postings_of kept pair terms) (below_more pair.place next all (omega (arith, lt)) old.below) (below_at pair.place next (postings_of kept pair terms) lt (postings_place kept pair terms));
+  }
 
 -- ---- the only term of a value
 
@@ -219,7 +220,7 @@ alone true pair term = posting_of term Stored pair ∷ []
 alone false pair term = posting_of [] Spill pair ∷ []
 
 -- its one posting
-alone_is : (pair : Pair) (term : Bytes) → postings_of pair (term ∷ []) ≡ alone (is_short term) pair term
+alone_is : (pair : Pair) (term : Bytes) → postings_of is_short pair (term ∷ []) ≡ alone (is_short term) pair term
 unfolding alone sort inserted
 alone_is pair term = by (is_short term)
   where
@@ -229,14 +230,14 @@ alone_is pair term = by (is_short term)
 
 pub short_added : {E : Type 0} (pair : Pair) (term bytes : Bytes) (old new : Gathering) (result : Result (Unit {0}) E) → is_short term ≡ true → bytes ≡ term
     → OnOk result (new ≡ record old { postings = inserted posting_cmp (posting_of bytes Stored pair) old.postings })
-    → OnOk result (new ≡ record old { postings = with_postings old.postings (postings_of pair (term ∷ [])) })
+    → OnOk result (new ≡ record old { postings = with_postings old.postings (postings_of is_short pair (term ∷ [])) })
 unfolding alone
 short_added pair term bytes old new result short same added =
     subst (λ (l : List Posting). OnOk result (new ≡ record old { postings = with_postings old.postings l })) (sym (alone_is pair term ∙ ap (λ (b : Bool). alone b pair term) short))
     (subst (λ (t : Bytes). OnOk result (new ≡ record old { postings = inserted posting_cmp (posting_of t Stored pair) old.postings })) same added)
 
 pub long_added : {E : Type 0} (pair : Pair) (term : Bytes) (old new : Gathering) (result : Result (Unit {0}) E) → is_short term ≡ false → OnOk result (new ≡ record old { postings = inserted posting_cmp (posting_of [] Spill pair) old.postings })
-    → OnOk result (new ≡ record old { postings = with_postings old.postings (postings_of pair (term ∷ [])) })
+    → OnOk result (new ≡ record old { postings = with_postings old.postings (postings_of is_short pair (term ∷ [])) })
 unfolding alone
 long_added pair term old new result long added =
     subst (λ (l : List Posting). OnOk result (new ≡ record old { postings = with_postings old.postings l })) (sym (alone_is pair term ∙ ap (λ (b : Bool). alone b pair term) long)) added

@@ -13,7 +13,7 @@ use Rattle.sasi_postings.specs.Postings.{index_postings}
 
 -- the bytes are the file of an index of this mode and column, for the data file of the content
 abbrev pub IsIndexFor : Partitioner → Mode → ColumnType → ℕ → Option Rule → Content → Bytes → Type 0
-IsIndexFor partitioner mode kind column rule content bytes = IsIndexOf mode kind (index_postings partitioner column rule content) bytes
+IsIndexFor partitioner mode kind column rule content bytes = IsIndexOf mode kind (index_postings mode partitioner column rule content) bytes
 
 -- **The bytes are the index file of this index of the table, for the data file of the content.**
 abbrev pub StandsForIndex : Partitioner → Definition → Index → Content → Bytes → Type 0

@@ -30,7 +30,7 @@ pub fn add_postings(
     kit: &mut Kit,
 ) -> Result<(), KitFault>
     requires { IfSome (option_copied value) IsText }
-    ensures ok { OnOk result (gather.new ≡ record gather.old { postings = with_postings gather.old.postings (postings_of pair (terms_of_value rule (option_copied value.entry))) }) }
+    ensures ok { OnOk result (gather.new ≡ record gather.old { postings = with_postings gather.old.postings (postings_of is_short pair (terms_of_value rule (option_copied value.entry))) }) }
     ensures missing { (class : Class) → result ≡ Err (KitFault.Missing class) → IsMissing (map (λ b. kind (b.vtable, b.value)) kit.old.objects.items) rule class }
     ensures classes { map (λ b. kind (b.vtable, b.value)) kit.new.objects.items ≡ map (λ b. kind (b.vtable, b.value)) kit.old.objects.items }
 {
@@ -46,7 +46,7 @@ fn add_terms(
     terms: &[Term],
     pair: Pair,
 ) -> Result<(), AllocError>
-    ensures { OnOk result (gather.new ≡ record gather.old { postings = with_postings gather.old.postings (postings_of pair terms.now) }) }
+    ensures { OnOk result (gather.new ≡ record gather.old { postings = with_postings gather.old.postings (postings_of is_short pair terms.now) }) }
 {
     // As of most values: no list is needed.
     if let [term] = terms {
@@ -66,7 +66,7 @@ fn is_short(term: &Term) -> bool
 
 // Adds the posting of the only term of a value.
 fn add_term(gather: &mut Gather, term: &Term, pair: Pair) -> Result<(), AllocError>
-    ensures { OnOk result (gather.new ≡ record gather.old { postings = with_postings gather.old.postings (postings_of pair (term.now ∷ [])) }) }
+    ensures { OnOk result (gather.new ≡ record gather.old { postings = with_postings gather.old.postings (postings_of is_short pair (term.now ∷ [])) }) }
 {
     if is_short(term) {
         gather.add(term.bytes(), ListKind::Stored, pair)
@@ -115,7 +115,7 @@ fn has_long(terms: &[Term]) -> bool
 
 // Adds a posting to the spill, where one of the terms can't be stored.
 fn add_spilled(gather: &mut Gather, terms: &[Term], pair: Pair) -> Result<(), AllocError>
-    ensures { OnOk result (gather.new ≡ record gather.old { postings = with_postings gather.old.postings (spill_postings pair terms.now) }) }
+    ensures { OnOk result (gather.new ≡ record gather.old { postings = with_postings gather.old.postings (spill_postings is_short pair terms.now) }) }
 {
     if has_long(terms) {
         gather.add(&[], ListKind::Spill, pair)?;

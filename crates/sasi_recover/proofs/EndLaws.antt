@@ -18,8 +18,7 @@ use Rattle.sasi_host.proofs.ContentLaws.{contents_same}
 use Rattle.sasi_indexwrite.specs.Content.{IndexContent}
 use Rattle.sasi_indexwrite.specs.Files.{IsIndexFile}
 use Rattle.sasi_indexread.specs.HeaderAndFooter as index_file
-use Rattle.sasi_indexread.specs.HeaderAndFooter.{HasHeaderAndFooter}
-use Rattle.sasi_indexread.specs.Opened.{NoFalseIndexDamage, OpenIndexFile}
+use Rattle.sasi_indexread.specs.Opened.{HasHeaderAndFooterOf, NoFalseIndexDamage, OpenIndexFile}
 use Rattle.sasi_dataread.specs.Damages as data_file
 use Rattle.sasi_dataread.specs.HeaderAndFooter.{EndsAsDataFile, TellsMaxTimestamp}
 use Rattle.sasi_dataread.specs.Reads.{NoFalseDataDamage}
@@ -138,8 +137,8 @@ module _ (v : View) (file : FileName) where
       no_false bytes some.0 some.1 some.2 is some.3
 
   -- an index file has the end of one
-  pub index_end : (opened : OpenIndexFile) → file.kind ≡ kinds.Index → ((bytes : Bytes) → contents v file ≡ Some bytes → HasHeaderAndFooter bytes opened.kind (record { blocks = opened.blocks; spill = opened.spill })) → HasEnd v file
-  index_end opened kind end = subst (λ (k : Kind). (bytes : Bytes) → contents v file ≡ Some bytes → EndsAs k bytes) (sym kind) (λ bytes is. ends_as_index bytes opened.kind _ (end bytes is))
+  pub index_end : (opened : OpenIndexFile) → file.kind ≡ kinds.Index → ((bytes : Bytes) → contents v file ≡ Some bytes → HasHeaderAndFooterOf bytes opened) → HasEnd v file
+  index_end opened kind end = subst (λ (k : Kind). (bytes : Bytes) → contents v file ≡ Some bytes → EndsAs k bytes) (sym kind) (λ bytes is. ends_as_index bytes opened.mode opened.kind _ (end bytes is).1)
 
   -- and tells no timestamp
   pub index_time : file.kind ≡ kinds.Index → TellsTime v file 0

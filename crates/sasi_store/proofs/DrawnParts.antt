@@ -19,11 +19,12 @@ use Rattle.sasi_manifest.specs.declared.listing.Listing.{Listing}
 use Rattle.sasi_manifest.specs.Consistent.{HasIndexes, IsConsistent}
 use Rattle.sasi_manifest.specs.Edits.{numbers_at}
 use Rattle.sasi_manifest.specs.ListedDefinition.{ListedDefinition}
+use Rattle.sasi_manifest.specs.Listings.{by_number}
 use Rattle.sasi_manifest.specs.ListedFiles.{FitParts}
 use Rattle.sasi_manifest.specs.ListedTables.{listed}
 use Rattle.sasi_memtable.specs.MemtableView.{MemtableView}
-use Rattle.sasi_layout.proofs.Parts.{AreApart, built_few, drawn_fit, drawn_indexes, drawn_length, parts_of_table, tables_apart}
-use Rattle.sasi_layout.specs.Layout.{Layout, TableParts, Used, built_numbers, drawn, listed_of}
+use Rattle.sasi_layout.proofs.Parts.{AreApart, rising_few, drawn_fit, drawn_indexes, drawn_length, parts_of_table, tables_apart}
+use Rattle.sasi_layout.specs.Layout.{Layout, TableParts, Used, rising_numbers, drawn, listed_of}
 use Rattle.sasi_layout.specs.Moves.{flush_parts}
 use Rattle.sasi_layout.specs.Serving.{AreStorable, Serves, StoreInMemory}
 use Rattle.sasi_layout.specs.Spent.{first_spent, part_draws}
@@ -31,10 +32,10 @@ use Rattle.sasi_layout.specs.declared.number_kind.NumberKind.{NumberKind}
 use Rattle.sasi_layout.specs.declared.number_kind.NumberKind.TheVariants as kinds
 use Rattle.sasi_recover.specs.declared.opened.Numbers.{Numbers}
 use Rattle.sasi_store.specs.Flushing.{AreTableIndexes, CanIndex}
-use Rattle.sasi_store.specs.FlushDraws.{built_of, parts_for}
+use Rattle.sasi_store.specs.FlushDraws.{parts_for}
 use Rattle.sasi_store.specs.Held.{KnowsDef}
 use Rattle.sasi_store.specs.Numbers.{flush_draws}
-use Rattle.sasi_store.proofs.BuiltIndexes.{are_built, are_known, are_typed, built_are, number_of, table_indexes}
+use Rattle.sasi_store.proofs.RisingIndexes.{are_built, are_known, are_typed, number_of, rising_are, table_indexes}
 use Rattle.sasi_store.proofs.Composition.{numbered_at}
 use Rattle.sasi_store.proofs.TablesInMemory.{all_at, at_numbered, seen_as}
 
@@ -90,29 +91,29 @@ none_spent old count less room more parts many =
 
 module _ (row : ListedTable) (used : ℕ) where
   abbrev pub drawn_for : List PartNumber
-  drawn_for = parts_for used (built_of row.table.indexes)
+  drawn_for = parts_for used (by_number row.table.indexes)
 
   -- a table of these indexes without parts
   abbrev alone : TableParts
   alone = record { definition = definition row.table; numbers = numbers_of row.table; since = 0; first = None; files = []; frozen = []; memtable = map_.empty }
 
-  pub drawn_count : length drawn_for ≡ length (built_of row.table.indexes)
-  drawn_count = drawn_length used (map number_of (built_of row.table.indexes)) ∙ length-map (built_of row.table.indexes) number_of
+  pub drawn_count : length drawn_for ≡ length (by_number row.table.indexes)
+  drawn_count = drawn_length used (map number_of (by_number row.table.indexes)) ∙ length-map (by_number row.table.indexes) number_of
 
   small : (ns : List ℕ) → AllByRecursion (λ (n : ℕ). (1 ≤ n) × (n < 2 ^ 32)) ns → AllByRecursion (λ (n : ℕ). n < 2 ^ 32) ns
   small [] all = tt
   small (n ∷ ns) all = (all.0.1, small ns all.1)
 
-  few : HasIndexes (listed row) → length (built_numbers alone) < 2 ^ 16
-  few has = omega (arith, numbers_few (listed row) has, built_few alone)
+  few : HasIndexes (listed row) → length (rising_numbers alone) < 2 ^ 16
+  few has = omega (arith, numbers_few (listed row) has, rising_few alone)
 
-  own_fit : HasIndexes (listed row) → AreApart (numbers_of row.table) → used + length (built_of row.table.indexes) < 2 ^ 32 → FitParts (numbers_of row.table) drawn_for
+  own_fit : HasIndexes (listed row) → AreApart (numbers_of row.table) → used + length (by_number row.table.indexes) < 2 ^ 32 → FitParts (numbers_of row.table) drawn_for
   own_fit has apart room =
-      let are = built_are row alone refl refl in
-      let many : length (built_numbers alone) ≡ length (built_of row.table.indexes) = sym (ap length are) ∙ length-map (built_of row.table.indexes) number_of in
+      let are = rising_are row alone refl refl in
+      let many : length (rising_numbers alone) ≡ length (by_number row.table.indexes) = sym (ap length are) ∙ length-map (by_number row.table.indexes) number_of in
       subst (λ (ns : List ℕ). FitParts (numbers_of row.table) (drawn used ns)) (sym are) (drawn_fit used alone apart (small (numbers_of row.table) has.numbered) (few has) (omega (arith, room, many)))
 
-  module _ (listing : Listing) (known : IsConsistent listing) (number : ℕ) (there : slice_get listing.tables (number - 1) ≡ Some (listed row)) (room : used + length (built_of row.table.indexes) < 2 ^ 32) where
+  module _ (listing : Listing) (known : IsConsistent listing) (number : ℕ) (there : slice_get listing.tables (number - 1) ≡ Some (listed row)) (room : used + length (by_number row.table.indexes) < 2 ^ 32) where
     has_indexes : HasIndexes (listed row)
     has_indexes = all_at HasIndexes (number - 1) listing.tables (listed row) known.indexes there
 
@@ -124,9 +125,9 @@ module _ (row : ListedTable) (used : ℕ) where
     drawn_fits = subst (λ (o : Option ListedDefinition). FitParts (option_map_or (λ (t : ListedDefinition). t.numbers) o []) drawn_for) (sym there) fit_own
 
     -- **An index file of each can be written.**
-    pub can_index : (kinds : List Class) (p : Partitioner) (m : MemtableView) → AllByRecursion (KnowsDef kinds) row.table.indexes → AreStorable p (types_of (definition row.table)) m.partitions → CanIndex kinds m.partitions (built_of row.table.indexes) drawn_for
+    pub can_index : (kinds : List Class) (p : Partitioner) (m : MemtableView) → AllByRecursion (KnowsDef kinds) row.table.indexes → AreStorable p (types_of (definition row.table)) m.partitions → CanIndex kinds m.partitions (by_number row.table.indexes) drawn_for
     can_index kinds p m known storable =
-        let same = drawn_indexes used (map number_of (built_of row.table.indexes)) in
+        let same = drawn_indexes used (map number_of (by_number row.table.indexes)) in
         record {
           built = are_built row has_indexes;
           typed = are_typed row p m storable;
@@ -142,16 +143,16 @@ module _ (v : View) (store : StoreInMemory) (l : Layout) (serves : Serves v stor
   in_layout = seen_as listed_of l.tables (number - 1) (listed row) (ap (λ (e : Listing). slice_get e.tables (number - 1)) (sym serves.listing) ∙ there)
 
   -- **They are the indexes of the layout's table.**
-  pub layout_indexes : At 1 number (AreTableIndexes (built_of row.table.indexes)) l.tables
+  pub layout_indexes : At 1 number (AreTableIndexes (by_number row.table.indexes)) l.tables
   layout_indexes =
       let t = in_layout in
-      at_numbered (AreTableIndexes (built_of row.table.indexes)) number l.tables t.0 some t.1
+      at_numbered (AreTableIndexes (by_number row.table.indexes)) number l.tables t.0 some t.1
       (table_indexes row t.0 (ap (λ (x : ListedDefinition). x.numbers) t.2) (ap (λ (x : ListedDefinition). x.definition) t.2))
 
   -- **The parts are those that the layout draws.**
   pub layout_parts : drawn_for row store.used.part ≡ flush_parts number l
   layout_parts =
       let t = in_layout in
-      ap (λ (u : Used). drawn u.part (map number_of (built_of row.table.indexes))) serves.used
-      ∙ ap (drawn l.used.part) (built_are row t.0 (ap (λ (x : ListedDefinition). x.numbers) t.2) (ap (λ (x : ListedDefinition). x.definition) t.2))
+      ap (λ (u : Used). drawn u.part (map number_of (by_number row.table.indexes))) serves.used
+      ∙ ap (drawn l.used.part) (rising_are row t.0 (ap (λ (x : ListedDefinition). x.numbers) t.2) (ap (λ (x : ListedDefinition). x.definition) t.2))
       ∙ sym (parts_of_table number l t.0 (numbered_at number l.tables t.0 some t.1))

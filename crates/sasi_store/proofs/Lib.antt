@@ -13,7 +13,7 @@ pub mod HeldMaps
 pub mod HeldChanges
 pub mod AddedToMaps
 pub mod IndexedTables
-pub mod BuiltIndexes
+pub mod RisingIndexes
 pub mod DrawnParts
 pub mod FlushedMaps
 pub mod DefinedMaps

@@ -1,8 +1,7 @@
 -- What a flush of a listed table draws: the parts of the index files that it writes, and the numbers of its files.
 use Rattle.std.specs.Prelude.{◌≡◌, ℕ, ◌+◌, ◌<◌, ◌^◌, List, length, map, ⊤}
-use Rattle.std.specs.List.{filter}
 use Rattle.sasi_types.specs.declared.index_def.IndexDef.{IndexDef}
-use Rattle.sasi_layout.specs.Layout.{drawn, is_built}
+use Rattle.sasi_layout.specs.Layout.{drawn}
 use Rattle.sasi_manifest.specs.declared.files.PartNumber.{PartNumber}
 use Rattle.sasi_manifest.specs.declared.listed.ListedTable.{ListedTable}
 use Rattle.sasi_manifest.specs.Listings.{by_number}
@@ -11,25 +10,21 @@ use Rattle.sasi_store.specs.Numbers.{AreNext, AreSpent}
 use Rattle.sasi_store.specs.declared.fault.StepFault.{StepFault}
 use Rattle.sasi_store.specs.declared.fault.StepFault.TheVariants as fault
 
--- the definitions of the indexes whose files a flush writes, rising by number
-abbrev pub built_of : List IndexDef → List IndexDef
-built_of defs = by_number (filter (λ (def : IndexDef). is_built def.mode) defs)
-
 -- a part of each of them, after the last used one
 abbrev pub parts_for : ℕ → List IndexDef → List PartNumber
 parts_for used defs = drawn used (map (λ (def : IndexDef). def.number) defs)
 
 -- these are what a flush of the table draws after these numbers
 pub record IsDrawnFor (row : ListedTable) (old : Numbers) (defs : List IndexDef) (parts : List PartNumber) (next : Numbers) : Type 0 where
-  pub defs_are : defs ≡ built_of row.table.indexes
-  pub parts_are : parts ≡ parts_for old.part (built_of row.table.indexes)
+  pub defs_are : defs ≡ by_number row.table.indexes
+  pub parts_are : parts ≡ parts_for old.part (by_number row.table.indexes)
   pub next_is : AreNext parts old next
-  pub room : old.part + length (built_of row.table.indexes) < 2 ^ 32
+  pub room : old.part + length (by_number row.table.indexes) < 2 ^ 32
 
 -- memory ran out, or no number of a kind is left that the flush needs
 abbrev pub StopsDraw : ListedTable → Numbers → StepFault → Type 0
 StopsDraw row old fault.Failed = ⊥
 StopsDraw row old fault.OutOfMemory = ⊤
 StopsDraw row old (fault.Damaged damage) = ⊥
-StopsDraw row old (fault.NumbersSpent kind) = AreSpent (parts_for old.part (built_of row.table.indexes)) old kind
+StopsDraw row old (fault.NumbersSpent kind) = AreSpent (parts_for old.part (by_number row.table.indexes)) old kind
 StopsDraw row old (fault.AnalyzerMissing class) = ⊥

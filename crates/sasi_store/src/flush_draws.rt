@@ -1,11 +1,10 @@
 // What a flush draws: a data file, a part for each index file that it writes, and a segment of the log.
 ghost use Rattle.std.specs.Prelude.{◌≡◌, ◌+◌, ◌-◌, ◌++◌, ◌∷◌, ◌<◌, ◌≤◌, ◌^◌, suc, [], List, length, slice_get, IfErr, IfNone, IfOk, IfSome, OnOk, OnSome, Some};
-ghost use Rattle.std.specs.List.{filter};
 ghost use Rattle.sasi_manifest.specs.declared.files.PartNumber.{PartNumber as APart};
 ghost use Rattle.sasi_manifest.specs.declared.listed.ListedTable.{ListedTable as ARow};
 ghost use Rattle.sasi_manifest.specs.ListedTables.{listed};
-ghost use Rattle.sasi_layout.specs.Layout.{is_built};
-ghost use Rattle.sasi_store.specs.FlushDraws.{IsDrawnFor, StopsDraw, built_of, parts_for};
+ghost use Rattle.sasi_manifest.specs.Listings.{by_number};
+ghost use Rattle.sasi_store.specs.FlushDraws.{IsDrawnFor, StopsDraw, parts_for};
 ghost use Rattle.sasi_store.specs.Held.{AreMapped};
 ghost use Rattle.sasi_store.specs.Numbers.{AreNext, AreSpent};
 ghost use Rattle.sasi_store.specs.Puts.{HasTableFor};
@@ -16,7 +15,7 @@ use crate::parts::Parts;
 use sasi_layout::NumberKind;
 use sasi_manifest::{ListedTable, PartNumber, PartNumbers, sort_by_number};
 use sasi_recover::Numbers;
-use sasi_types::{IndexDef, IndexList, Mode, TableNumber};
+use sasi_types::{IndexDef, IndexList, TableNumber};
 use std::alloc::{AllocError, Global};
 
 /// What a flush draws: the parts of index files of these definitions, and the last used numbers then.
@@ -43,7 +42,7 @@ fn draw_row(alloc: Global, numbers: Numbers, row: &ListedTable) -> Result<Drawn,
     ensures drawn { IfOk result (λ drawn. IsDrawnFor row.now numbers drawn.defs drawn.parts drawn.numbers) }
     ensures stops { IfErr result (StopsDraw row.now numbers) }
 {
-    let defs = built_indexes(alloc, row.table.indexes.as_slice())?;
+    let defs = rising_indexes(alloc, row.table.indexes.as_slice())?;
     let next = next_numbers(numbers, defs.as_slice().len())?;
     let parts = draw_parts(alloc, defs.as_slice(), numbers.part)?;
     Ok(Drawn {
@@ -99,44 +98,24 @@ fn part_after(used: u32, count: usize) -> Option<u32>
     used.checked_add(count as u32)
 }
 
-// The definitions of the indexes whose files a flush writes, rising by number.
-fn built_indexes(alloc: Global, defs: &[IndexDef]) -> Result<IndexList, AllocError>
-    ensures { IfOk result (λ built. built ≡ built_of defs.now) }
+// The definitions rising by number.
+fn rising_indexes(alloc: Global, defs: &[IndexDef]) -> Result<IndexList, AllocError>
+    ensures { IfOk result (λ rising. rising ≡ by_number defs.now) }
 {
-    let mut built = Vec::new(alloc);
-    push_built(alloc, &mut built, defs)?;
-    sort_by_number(&mut built)?;
-    list_of(alloc, built)
+    let mut rising = copies_of(alloc, defs)?;
+    sort_by_number(&mut rising)?;
+    list_of(alloc, rising)
 }
 
-// Adds copies of those whose files a flush writes.
-fn push_built(alloc: Global, built: &mut Vec<IndexDef>, defs: &[IndexDef]) -> Result<(), AllocError>
-    ensures { OnOk result (built.new.items ≡ built.old.items ++ filter (λ def. is_built def.mode) defs.now) }
+// Copies of the definitions.
+fn copies_of(alloc: Global, defs: &[IndexDef]) -> Result<Vec<IndexDef>, AllocError>
+    ensures { IfOk result (λ copies. copies.items ≡ defs.now) }
 {
+    let mut copies = Vec::new(alloc);
     for def in defs {
-        push_if_built(alloc, built, def)?;
+        copies.push(def.copy(alloc)?)?;
     }
-    Ok(())
-}
-
-// Adds a copy of it, if a flush writes its file.
-fn push_if_built(alloc: Global, built: &mut Vec<IndexDef>, def: &IndexDef) -> Result<(), AllocError>
-    ensures { OnOk result (built.new.items ≡ built.old.items ++ filter (λ def. is_built def.mode) (def.now ∷ [])) }
-{
-    if is_built(def.mode) {
-        built.push(def.copy(alloc)?)?;
-    }
-    Ok(())
-}
-
-// Whether a flush writes the file of an index of this mode.
-fn is_built(mode: Mode) -> bool
-    ensures { result ≡ is_built mode }
-{
-    match mode {
-        Mode::Prefix | Mode::Contains => true,
-        Mode::Sparse => false,
-    }
+    Ok(copies)
 }
 
 // The definitions as a list.

@@ -1,5 +1,6 @@
 pub mod CutLaws
 pub mod EntryLaws
+pub mod InlineLaws
 pub mod PackerLaws
 pub mod LevelLaws
 pub mod BlockLaws

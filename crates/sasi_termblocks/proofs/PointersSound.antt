@@ -4,6 +4,7 @@ use Rattle.std.proofs.lemmas.Bool.Decides.{leb_tells}
 use Rattle.std.proofs.lemmas.List.{length-map}
 use Rattle.std.specs.Prelude.{get_or, ◌==◌, nat_le, nat_lt, if◌then◌else◌}
 use Rattle.std.specs.Int.{w64}
+use Rattle.std.specs.List.{AllByRecursion}
 use Rattle.sasi_host.specs.declared.name.FileName.{FileName}
 use Rattle.sasi_host.specs.declared.damage.Damage.{Damage}
 use Rattle.sasi_host.specs.declared.damage.FormatRule.{FormatRule}
@@ -18,13 +19,15 @@ use Rattle.sasi_formats.specs.Formats.{Fits}
 use Rattle.sasi_formats.specs.Fields.{number}
 use Rattle.sasi_formats.proofs.Fitting.{checked_fits, number_fits}
 use Rattle.sasi_termblocks.specs.declared.block_ref.BlockRef.{BlockRef}
+use Rattle.sasi_termblocks.specs.declared.list_form.ListForm.{ListForm}
 use Rattle.sasi_termblocks.specs.declared.term_entry.TermEntry.{TermEntry}
 use Rattle.sasi_termblocks.specs.Entries.{pointer, term}
+use Rattle.sasi_termblocks.specs.Forms.{HasForm}
 use Rattle.sasi_termblocks.specs.Blocks.{Item, EndsAfter, above, block, blocks, items_of, first_term, first_terms, level_bytes, next_at, pointer_item}
-use Rattle.sasi_termblocks.specs.Windows.{BreaksTree, HasEntry, count_in}
+use Rattle.sasi_termblocks.specs.Windows.{BreaksForm, BreaksTree, HasEntry, count_in}
 use Rattle.sasi_termblocks.specs.Damages.{BreaksPointers, BreaksTerms, Leads, ShowsBlocks}
 use Rattle.sasi_termblocks.specs.Damages.ShowsBlock.{ends, breaks}
-use Rattle.sasi_termblocks.specs.Damages.ShowsBlocks.{misled, ends_early, in_terms, in_pointers, behind_terms, led_too_far, led_too_near}
+use Rattle.sasi_termblocks.specs.Damages.ShowsBlocks.{misled, of_other_form, ends_early, in_terms, in_pointers, behind_terms, led_too_far, led_too_near}
 use Rattle.sasi_termblocks.specs.BlockFaults.{BreaksFirstPointer}
 use Rattle.sasi_termblocks.specs.Damages.Leads.{top, down}
 use Rattle.sasi_termblocks.specs.Descents.{high_page, is_page_offset, level_at, level_items, low_page, page_of_top, pointer_to}
@@ -38,7 +41,7 @@ use Rattle.sasi_termblocks.proofs.Levels.{at_up, items_up, level_are, level_bloc
 use Rattle.sasi_termblocks.proofs.Found.{value_sound}
 use Rattle.sasi_termblocks.proofs.Children.{all_items, page_block, pointer_is}
 use Rattle.sasi_termblocks.proofs.Descent.{high_is, level_aligned, low_is, top_for}
-use Rattle.sasi_termblocks.proofs.Sound.{block_ends, front_sound, terms_sound, trees_sound}
+use Rattle.sasi_termblocks.proofs.Sound.{block_ends, form_sound, front_sound, terms_sound, trees_sound}
 
 -- where a block of a level is
 pub record IsOn (r : BlockRef) (entries : List TermEntry) (level page : ℕ) : Type 0 where
@@ -205,47 +208,55 @@ module _ (bytes : Bytes) (r : BlockRef) (entries : List TermEntry) (has : HasBlo
       value_sound (pointer_to page (page + 1)) group_here 0 d (least_n, offset_n) rule_ at_seen seen one.fits one.some (ap (λ (i : Item). i.bytes) item_is)
       (term_fits, checked_fits rule.Place 8 (is_page_offset page (page + 1)) (number w64) offset_n (number_fits w64 offset_n short) test) entry
 
--- no corruption is shown of blocks in the format
-pub blocks_sound : (file : FileName) (bytes : Bytes) (r : BlockRef) (entries : List TermEntry) (damage : Damage) → HasBlocks bytes r entries → ShowsBlocks file r bytes damage → ⊥
-blocks_sound file bytes r entries damage has (ends_early early) =
+-- no corruption is shown of blocks in the format whose entries have the form
+pub blocks_sound : (file : FileName) (bytes : Bytes) (r : BlockRef) (form : ListForm) (entries : List TermEntry) (damage : Damage) → HasBlocks bytes r entries → AllByRecursion (HasForm form) entries → ShowsBlocks file r form bytes damage → ⊥
+blocks_sound file bytes r form entries damage has formed (ends_early early) =
     let items = items_of entries in
     let are = all_items bytes r entries has in
     let stands = level_stands 0 r.levels r.first items bytes (omega arith) are has.stands in
     omega (arith, early.short, at_ends bytes r.first (level_bytes items) stands, blocks_length (blocks items) (all_blocks items (are_small items are)), has.referred.blocks_are)
-blocks_sound file bytes r entries damage has (in_terms page low high (ends early)) =
+blocks_sound file bytes r form entries damage has formed (in_terms page low high (ends early)) =
     let group = page - r.first / 4096 in
     omega (arith, early.short, block_ends bytes r entries has 0 group page (omega arith) (omega (arith, low, high, has.referred.blocks_are)) (omega (arith, low, has.aligned)))
-blocks_sound file bytes r entries damage has (in_terms page low high (breaks window at named stands long at_is broken)) =
+blocks_sound file bytes r form entries damage has formed (in_terms page low high (breaks window at named stands long at_is broken)) =
     let group = page - r.first / 4096 in
     let lt : group < length (blocks (items_of entries)) = omega (arith, low, high, has.referred.blocks_are) in
     let window_is = page_block bytes window r entries 0 group page has (omega arith) lt (omega (arith, low, has.aligned)) stands long in
     terms_sound bytes r entries has group damage.rule at (seen_bytes damage.seen) lt (subst (λ (w : Bytes). BreaksTerms w damage.rule at (seen_bytes damage.seen)) window_is broken)
-blocks_sound file bytes r entries damage has (misled page index low high (ends early)) =
+blocks_sound file bytes r form entries damage has formed (misled page index low high (ends early)) =
     let group = page - r.first / 4096 in
     omega (arith, early.short, block_ends bytes r entries has 0 group page (omega arith) (omega (arith, low, high, has.referred.blocks_are)) (omega (arith, low, has.aligned)))
-blocks_sound file bytes r entries damage has (misled page index low high (breaks window at named stands long at_is broken)) =
+blocks_sound file bytes r form entries damage has formed (misled page index low high (breaks window at named stands long at_is broken)) =
     let group = page - r.first / 4096 in
     let lt : group < length (blocks (items_of entries)) = omega (arith, low, high, has.referred.blocks_are) in
     let window_is = page_block bytes window r entries 0 group page has (omega arith) lt (omega (arith, low, has.aligned)) stands long in
     trees_sound bytes r entries has group index damage.rule at (seen_bytes damage.seen) lt (subst (λ (w : Bytes). BreaksTree r.first index w damage.rule at (seen_bytes damage.seen)) window_is broken)
-blocks_sound file bytes r entries damage has (in_pointers zero page some leads shown) = absurd (omega (arith, some))
-blocks_sound file bytes r entries damage has (in_pointers (suc level) page some leads (ends early)) =
+blocks_sound file bytes r form entries damage has formed (of_other_form page index low high (ends early)) =
+    let group = page - r.first / 4096 in
+    omega (arith, early.short, block_ends bytes r entries has 0 group page (omega arith) (omega (arith, low, high, has.referred.blocks_are)) (omega (arith, low, has.aligned)))
+blocks_sound file bytes r form entries damage has formed (of_other_form page index low high (breaks window at named stands long at_is broken)) =
+    let group = page - r.first / 4096 in
+    let lt : group < length (blocks (items_of entries)) = omega (arith, low, high, has.referred.blocks_are) in
+    let window_is = page_block bytes window r entries 0 group page has (omega arith) lt (omega (arith, low, has.aligned)) stands long in
+    form_sound bytes r entries has form group index damage.rule at (seen_bytes damage.seen) formed lt (subst (λ (w : Bytes). BreaksForm form index w damage.rule at (seen_bytes damage.seen)) window_is broken)
+blocks_sound file bytes r form entries damage has formed (in_pointers zero page some leads shown) = absurd (omega (arith, some))
+blocks_sound file bytes r form entries damage has formed (in_pointers (suc level) page some leads (ends early)) =
     let on = on_level bytes r entries (suc level) page has leads in
     omega (arith, early.short, block_ends bytes r entries has (suc level) on.group page on.le on.lt on.is)
-blocks_sound file bytes r entries damage has (in_pointers (suc level) page some leads (breaks window at named stands long at_is broken)) =
+blocks_sound file bytes r form entries damage has formed (in_pointers (suc level) page some leads (breaks window at named stands long at_is broken)) =
     let on = on_level bytes r entries (suc level) page has leads in
     let window_is = page_block bytes window r entries (suc level) on.group page has on.le on.lt on.is stands long in
     pointers_sound bytes r entries level page damage.rule at (seen_bytes damage.seen) has on
     (subst (λ (w : Bytes). BreaksPointers (low_page r (suc level)) (high_page r (suc level) page) w damage.rule at (seen_bytes damage.seen)) window_is broken)
-blocks_sound file bytes r entries damage has (behind_terms some (ends early)) =
+blocks_sound file bytes r form entries damage has formed (behind_terms some (ends early)) =
     omega (arith, early.short, block_ends bytes r entries has (suc zero) 0 (r.first / 4096 + r.blocks) (omega (arith, some)) (first_level bytes r entries has some) (first_page bytes r entries has some (r.first / 4096 + r.blocks) refl))
-blocks_sound file bytes r entries damage has (behind_terms some (breaks window at named stands long at_is broken)) =
+blocks_sound file bytes r form entries damage has formed (behind_terms some (breaks window at named stands long at_is broken)) =
     let window_is = page_block bytes window r entries (suc zero) 0 (r.first / 4096 + r.blocks) has (omega (arith, some)) (first_level bytes r entries has some) (first_page bytes r entries has some (r.first / 4096 + r.blocks) refl) stands long in
     first_sound bytes r entries has some damage.rule at (seen_bytes damage.seen) (subst (λ (w : Bytes). BreaksFirstPointer (r.first / 4096) w damage.rule at (seen_bytes damage.seen)) window_is broken)
-blocks_sound file bytes r entries damage has (led_too_far sought page leads past shown) = not_too_far file bytes r entries damage sought has page (led_for bytes r entries sought 0 page has leads) past shown
-blocks_sound file bytes r entries damage has (led_too_near sought page index leads within shown) = not_too_near file bytes r entries damage sought has page index leads within shown
+blocks_sound file bytes r form entries damage has formed (led_too_far sought page leads past shown) = not_too_far file bytes r entries damage sought has page (led_for bytes r entries sought 0 page has leads) past shown
+blocks_sound file bytes r form entries damage has formed (led_too_near sought page index leads within shown) = not_too_near file bytes r entries damage sought has page index leads within shown
 
-pub no_false : (v : View) (file : FileName) (r : BlockRef) (f : ReadFault) → DamageShown v file (ShowsBlocks file r) f → NoFalseDamage v file r f
-no_false v file r fault.Failed shown = tt
-no_false v file r fault.OutOfMemory shown = tt
-no_false v file r (fault.Damaged damage) shown = λ bytes entries is has. blocks_sound file bytes r entries damage has (shown bytes is)
+pub no_false : (v : View) (file : FileName) (r : BlockRef) (form : ListForm) (f : ReadFault) → DamageShown v file (ShowsBlocks file r form) f → NoFalseDamage v file r form f
+no_false v file r form fault.Failed shown = tt
+no_false v file r form fault.OutOfMemory shown = tt
+no_false v file r form (fault.Damaged damage) shown = λ bytes entries is has formed. blocks_sound file bytes r form entries damage has formed (shown bytes is)

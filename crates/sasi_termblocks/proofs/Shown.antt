@@ -19,12 +19,13 @@ use Rattle.sasi_host.proofs.DamageLaws.{end_shown, shown_as, shown_before}
 use Rattle.sasi_termblocks.specs.declared.fault.BlockFault.{BlockFault}
 use Rattle.sasi_termblocks.specs.declared.fault.BlockFault.TheVariants.{OutOfMemory, Broken}
 use Rattle.sasi_termblocks.specs.declared.block_ref.BlockRef.{BlockRef}
+use Rattle.sasi_termblocks.specs.declared.list_form.ListForm.{ListForm}
 use Rattle.sasi_termblocks.specs.Entries.{is_below, term}
 use Rattle.sasi_termblocks.specs.Windows.{IsFault, count_in}
 use Rattle.sasi_termblocks.specs.BlockFaults.{BreaksEnd, BreaksFirstPointer, BreaksLeast, BreaksSome, BreaksUpTo, IsMisplaced, IsNear}
 use Rattle.sasi_termblocks.specs.Damages.{BreaksGiven, BreaksPointers, BreaksSplit, BreaksTerms, IsLifted, Leads, LeadsFor, LeadsTo, ShowsBlock, ShowsBlocks, ShowsGiven}
 use Rattle.sasi_termblocks.specs.Damages.ShowsBlock.{ends, breaks}
-use Rattle.sasi_termblocks.specs.Damages.ShowsBlocks.{in_terms, in_pointers, misled, ends_early, behind_terms, led_too_far, led_too_near}
+use Rattle.sasi_termblocks.specs.Damages.ShowsBlocks.{in_terms, in_pointers, misled, of_other_form, ends_early, behind_terms, led_too_far, led_too_near}
 use Rattle.sasi_termblocks.specs.declared.term_entry.TermEntry.{TermEntry}
 use Rattle.sasi_termblocks.specs.Descents.{high_page, low_page}
 use Rattle.sasi_termblocks.specs.Scans.{EndsBelow, EndsPast, GivesEntry, IsPast, ReadsHere}
@@ -50,9 +51,9 @@ pub order_broken : (block : Bytes) (index : ℕ) (r : FormatRule) (at : ℕ) (se
 order_broken block index r at seen lt (inl some) = inr (inl (some.0, omega (arith, some.1, lt), entry_breaks block some.0 r at seen some.2))
 order_broken block index r at seen lt (inr two) = inr (inr (inl (two.0, omega (arith, two.1, lt), two.2)))
 
-pub least_broken : (first index : ℕ) (least block : Bytes) (r : FormatRule) (at : ℕ) (seen : Bytes) → index < count_in block → BreaksLeast index least block r at seen → BreaksGiven first index least block r at seen
-least_broken first index least block r at seen lt (inl broken) = inl (inr (inl (index, lt, entry_breaks block index r at seen broken)))
-least_broken first index least block r at seen lt (inr misplaced) = inr (inl misplaced)
+pub least_broken : (first : ℕ) (form : ListForm) (index : ℕ) (least block : Bytes) (r : FormatRule) (at : ℕ) (seen : Bytes) → index < count_in block → BreaksLeast index least block r at seen → BreaksGiven first form index least block r at seen
+least_broken first form index least block r at seen lt (inl broken) = inl (inr (inl (index, lt, entry_breaks block index r at seen broken)))
+least_broken first form index least block r at seen lt (inr misplaced) = inr (inl misplaced)
 
 pub end_broken : (block : Bytes) (index : ℕ) (r : FormatRule) (at : ℕ) (seen : Bytes) → index < count_in block → BreaksEnd block index r at seen → BreaksTerms block r at seen
 end_broken block index r at seen lt (inl entry) = inr (inl (index, lt, entry))
@@ -94,74 +95,75 @@ page_short bytes window page is lt =
 -- ---- the whole
 
 -- blocks that no file can have
-pub too_long_shown : (v : View) (file : FileName) (r : BlockRef) (f : ReadFault) → ((bytes : Bytes) → contents v file ≡ Some bytes → length bytes ≤ 2 ^ 62) → (2 ^ 62 < r.first) ⊎ (2 ^ 50 < r.blocks) → DamageShown v file (TellsSize file) f
-    → DamageShown v file (ShowsBlocks file r) f
-too_long_shown v file r f most long told =
-    shown_as (ShowsEnd (r.first + 4096 * r.blocks) file) (ShowsBlocks file r) v file f (λ bytes damage is early. ends_early early)
+pub too_long_shown : (v : View) (file : FileName) (r : BlockRef) (form : ListForm) (f : ReadFault) → ((bytes : Bytes) → contents v file ≡ Some bytes → length bytes ≤ 2 ^ 62) → (2 ^ 62 < r.first) ⊎ (2 ^ 50 < r.blocks) → DamageShown v file (TellsSize file) f
+    → DamageShown v file (ShowsBlocks file r form) f
+too_long_shown v file r form f most long told =
+    shown_as (ShowsEnd (r.first + 4096 * r.blocks) file) (ShowsBlocks file r form) v file f (λ bytes damage is early. ends_early early)
     (end_shown v file (r.first + 4096 * r.blocks) f (λ bytes is. let le = most bytes is in ⊎_elim (λ a. omega (arith, a, le)) (λ b. omega (arith, b, le)) long) told)
 
-pub terms_shown : (v : View) (file : FileName) (r : BlockRef) (page : ℕ) (f : ReadFault) → r.first / 4096 ≤ page → page < r.first / 4096 + r.blocks → DamageShown v file (ShowsBlock BreaksTerms file page) f → DamageShown v file (ShowsBlocks file r) f
-terms_shown v file r page f low high shown = shown_as (ShowsBlock BreaksTerms file page) (ShowsBlocks file r) v file f (λ bytes damage is block. in_terms page low high block) shown
+pub terms_shown : (v : View) (file : FileName) (r : BlockRef) (form : ListForm) (page : ℕ) (f : ReadFault) → r.first / 4096 ≤ page → page < r.first / 4096 + r.blocks → DamageShown v file (ShowsBlock BreaksTerms file page) f → DamageShown v file (ShowsBlocks file r form) f
+terms_shown v file r form page f low high shown = shown_as (ShowsBlock BreaksTerms file page) (ShowsBlocks file r form) v file f (λ bytes damage is block. in_terms page low high block) shown
 
-pub pointers_shown : (v : View) (file : FileName) (r : BlockRef) (level page : ℕ) (f : ReadFault) → 0 < level → ((bytes : Bytes) → contents v file ≡ Some bytes → Leads bytes r level page)
-    → DamageShown v file (ShowsBlock (BreaksPointers (low_page r level) (high_page r level page)) file page) f → DamageShown v file (ShowsBlocks file r) f
-pointers_shown v file r level page f some leads shown =
-    shown_as (ShowsBlock (BreaksPointers (low_page r level) (high_page r level page)) file page) (ShowsBlocks file r) v file f (λ bytes damage is block. in_pointers level page some (leads bytes is) block) shown
+pub pointers_shown : (v : View) (file : FileName) (r : BlockRef) (form : ListForm) (level page : ℕ) (f : ReadFault) → 0 < level → ((bytes : Bytes) → contents v file ≡ Some bytes → Leads bytes r level page)
+    → DamageShown v file (ShowsBlock (BreaksPointers (low_page r level) (high_page r level page)) file page) f → DamageShown v file (ShowsBlocks file r form) f
+pointers_shown v file r form level page f some leads shown =
+    shown_as (ShowsBlock (BreaksPointers (low_page r level) (high_page r level page)) file page) (ShowsBlocks file r form) v file f (λ bytes damage is block. in_pointers level page some (leads bytes is) block) shown
 
 -- the first pointer block
-pub behind_shown : (v : View) (file : FileName) (r : BlockRef) (f : ReadFault) → 0 < r.levels → DamageShown v file (ShowsBlock (BreaksFirstPointer (r.first / 4096)) file (r.first / 4096 + r.blocks)) f → DamageShown v file (ShowsBlocks file r) f
-behind_shown v file r f some shown =
-    shown_as (ShowsBlock (BreaksFirstPointer (r.first / 4096)) file (r.first / 4096 + r.blocks)) (ShowsBlocks file r) v file f (λ bytes damage is block. behind_terms some block) shown
+pub behind_shown : (v : View) (file : FileName) (r : BlockRef) (form : ListForm) (f : ReadFault) → 0 < r.levels → DamageShown v file (ShowsBlock (BreaksFirstPointer (r.first / 4096)) file (r.first / 4096 + r.blocks)) f → DamageShown v file (ShowsBlocks file r form) f
+behind_shown v file r form f some shown =
+    shown_as (ShowsBlock (BreaksFirstPointer (r.first / 4096)) file (r.first / 4096 + r.blocks)) (ShowsBlocks file r form) v file f (λ bytes damage is block. behind_terms some block) shown
 
 -- a block to which the pointers lead
-split_shows : (file : FileName) (r : BlockRef) (sought : Bytes) (page : ℕ) (bytes : Bytes) (damage : Damage) → r.first / 4096 ≤ page → page < r.first / 4096 + r.blocks → LeadsFor bytes r sought 0 page
-    → ShowsBlock (BreaksSplit (r.first / 4096) page sought) file page bytes damage → ShowsBlocks file r bytes damage
-split_shows file r sought page bytes damage low high leads (ends early) = in_terms page low high (ends early)
-split_shows file r sought page bytes damage low high leads (breaks window at named stands long at_is (inl broken)) = in_terms page low high (breaks window at named stands long at_is broken)
-split_shows file r sought page bytes damage low high leads (breaks window at named stands long at_is (inr late)) = led_too_far sought page leads late.0 (breaks window at named stands long at_is late.1)
+split_shows : (file : FileName) (r : BlockRef) (form : ListForm) (sought : Bytes) (page : ℕ) (bytes : Bytes) (damage : Damage) → r.first / 4096 ≤ page → page < r.first / 4096 + r.blocks → LeadsFor bytes r sought 0 page
+    → ShowsBlock (BreaksSplit (r.first / 4096) page sought) file page bytes damage → ShowsBlocks file r form bytes damage
+split_shows file r form sought page bytes damage low high leads (ends early) = in_terms page low high (ends early)
+split_shows file r form sought page bytes damage low high leads (breaks window at named stands long at_is (inl broken)) = in_terms page low high (breaks window at named stands long at_is broken)
+split_shows file r form sought page bytes damage low high leads (breaks window at named stands long at_is (inr late)) = led_too_far sought page leads late.0 (breaks window at named stands long at_is late.1)
 
-pub split_shown : (v : View) (file : FileName) (r : BlockRef) (sought : Bytes) (page : ℕ) (f : ReadFault) → r.first / 4096 ≤ page → page < r.first / 4096 + r.blocks → ((bytes : Bytes) → contents v file ≡ Some bytes → LeadsFor bytes r sought 0 page)
-    → DamageShown v file (ShowsBlock (BreaksSplit (r.first / 4096) page sought) file page) f → DamageShown v file (ShowsBlocks file r) f
-split_shown v file r sought page f low high leads shown =
-    shown_as (ShowsBlock (BreaksSplit (r.first / 4096) page sought) file page) (ShowsBlocks file r) v file f (λ bytes damage is block. split_shows file r sought page bytes damage low high (leads bytes is) block) shown
+pub split_shown : (v : View) (file : FileName) (r : BlockRef) (form : ListForm) (sought : Bytes) (page : ℕ) (f : ReadFault) → r.first / 4096 ≤ page → page < r.first / 4096 + r.blocks → ((bytes : Bytes) → contents v file ≡ Some bytes → LeadsFor bytes r sought 0 page)
+    → DamageShown v file (ShowsBlock (BreaksSplit (r.first / 4096) page sought) file page) f → DamageShown v file (ShowsBlocks file r form) f
+split_shown v file r form sought page f low high leads shown =
+    shown_as (ShowsBlock (BreaksSplit (r.first / 4096) page sought) file page) (ShowsBlocks file r form) v file f (λ bytes damage is block. split_shows file r form sought page bytes damage low high (leads bytes is) block) shown
 
 -- a block of which an entry is given
-given_shows : (file : FileName) (r : BlockRef) (page index : ℕ) (least bytes : Bytes) (damage : Damage) → r.first / 4096 ≤ page → page < r.first / 4096 + r.blocks → ShowsBlock (BreaksGiven r.first index least) file page bytes damage
-    → ShowsGiven file r page index least bytes damage
-given_shows file r page index least bytes damage low high (ends early) = inl (in_terms page low high (ends early))
-given_shows file r page index least bytes damage low high (breaks window at named stands long at_is (inl broken)) = inl (in_terms page low high (breaks window at named stands long at_is broken))
-given_shows file r page index least bytes damage low high (breaks window at named stands long at_is (inr (inl early))) = inr (high, breaks window at named stands long at_is early)
-given_shows file r page index least bytes damage low high (breaks window at named stands long at_is (inr (inr wrong))) = inl (misled page index low high (breaks window at named stands long at_is wrong))
+given_shows : (file : FileName) (r : BlockRef) (form : ListForm) (page index : ℕ) (least bytes : Bytes) (damage : Damage) → r.first / 4096 ≤ page → page < r.first / 4096 + r.blocks → ShowsBlock (BreaksGiven r.first form index least) file page bytes damage
+    → ShowsGiven file r form page index least bytes damage
+given_shows file r form page index least bytes damage low high (ends early) = inl (in_terms page low high (ends early))
+given_shows file r form page index least bytes damage low high (breaks window at named stands long at_is (inl broken)) = inl (in_terms page low high (breaks window at named stands long at_is broken))
+given_shows file r form page index least bytes damage low high (breaks window at named stands long at_is (inr (inl early))) = inr (high, breaks window at named stands long at_is early)
+given_shows file r form page index least bytes damage low high (breaks window at named stands long at_is (inr (inr (inl wrong)))) = inl (misled page index low high (breaks window at named stands long at_is wrong))
+given_shows file r form page index least bytes damage low high (breaks window at named stands long at_is (inr (inr (inr other)))) = inl (of_other_form page index low high (breaks window at named stands long at_is other))
 
-pub given_shown : (v : View) (file : FileName) (r : BlockRef) (page index : ℕ) (least : Bytes) (f : ReadFault) → r.first / 4096 ≤ page → page < r.first / 4096 + r.blocks → DamageShown v file (ShowsBlock (BreaksGiven r.first index least) file page) f
-    → DamageShown v file (ShowsGiven file r page index least) f
-given_shown v file r page index least f low high shown =
-    shown_as (ShowsBlock (BreaksGiven r.first index least) file page) (ShowsGiven file r page index least) v file f (λ bytes damage is block. given_shows file r page index least bytes damage low high block) shown
+pub given_shown : (v : View) (file : FileName) (r : BlockRef) (form : ListForm) (page index : ℕ) (least : Bytes) (f : ReadFault) → r.first / 4096 ≤ page → page < r.first / 4096 + r.blocks → DamageShown v file (ShowsBlock (BreaksGiven r.first form index least) file page) f
+    → DamageShown v file (ShowsGiven file r form page index least) f
+given_shown v file r form page index least f low high shown =
+    shown_as (ShowsBlock (BreaksGiven r.first form index least) file page) (ShowsGiven file r form page index least) v file f (λ bytes damage is block. given_shows file r form page index least bytes damage low high block) shown
 
-pub given_all : (v : View) (file : FileName) (r : BlockRef) (page index : ℕ) (least : Bytes) (f : ReadFault) → DamageShown v file (ShowsBlocks file r) f → DamageShown v file (ShowsGiven file r page index least) f
-given_all v file r page index least f shown = shown_as (ShowsBlocks file r) (ShowsGiven file r page index least) v file f (λ bytes damage is all. inl all) shown
+pub given_all : (v : View) (file : FileName) (r : BlockRef) (form : ListForm) (page index : ℕ) (least : Bytes) (f : ReadFault) → DamageShown v file (ShowsBlocks file r form) f → DamageShown v file (ShowsGiven file r form page index least) f
+given_all v file r form page index least f shown = shown_as (ShowsBlocks file r form) (ShowsGiven file r form page index least) v file f (λ bytes damage is all. inl all) shown
 
 -- where the pointers lead to it
-pub found_shown : (v : View) (file : FileName) (r : BlockRef) (page index : ℕ) (sought : Bytes) (f : ReadFault) → ((bytes : Bytes) → contents v file ≡ Some bytes → LeadsTo bytes r sought page index)
-    → DamageShown v file (ShowsGiven file r page index sought) f → DamageShown v file (ShowsBlocks file r) f
-found_shown v file r page index sought f leads shown =
-    shown_as (ShowsGiven file r page index sought) (ShowsBlocks file r) v file f (λ bytes damage is shows. ⊎_elim (λ all. all) (λ early. led_too_near sought page index (leads bytes is) early.0 early.1) shows) shown
+pub found_shown : (v : View) (file : FileName) (r : BlockRef) (form : ListForm) (page index : ℕ) (sought : Bytes) (f : ReadFault) → ((bytes : Bytes) → contents v file ≡ Some bytes → LeadsTo bytes r sought page index)
+    → DamageShown v file (ShowsGiven file r form page index sought) f → DamageShown v file (ShowsBlocks file r form) f
+found_shown v file r form page index sought f leads shown =
+    shown_as (ShowsGiven file r form page index sought) (ShowsBlocks file r form) v file f (λ bytes damage is shows. ⊎_elim (λ all. all) (λ early. led_too_near sought page index (leads bytes is) early.0 early.1) shows) shown
 
 -- or where the entry needs to be above none
 none_below : (t : Bytes) → is_below t [] ≡ true → ⊥
 none_below [] is = absurd cc
 none_below (b ∷ others) is = absurd cc
 
-next_block : (file : FileName) (r : BlockRef) (page index : ℕ) (bytes : Bytes) (damage : Damage) → r.first / 4096 ≤ page → page < r.first / 4096 + r.blocks → ShowsBlock (IsMisplaced true index []) file page bytes damage → ShowsBlocks file r bytes damage
-next_block file r page index bytes damage low high (ends early) = in_terms page low high (ends early)
-next_block file r page index bytes damage low high (breaks window at named stands long at_is early) = absurd (none_below early.entry early.compared)
+next_block : (file : FileName) (r : BlockRef) (form : ListForm) (page index : ℕ) (bytes : Bytes) (damage : Damage) → r.first / 4096 ≤ page → page < r.first / 4096 + r.blocks → ShowsBlock (IsMisplaced true index []) file page bytes damage → ShowsBlocks file r form bytes damage
+next_block file r form page index bytes damage low high (ends early) = in_terms page low high (ends early)
+next_block file r form page index bytes damage low high (breaks window at named stands long at_is early) = absurd (none_below early.entry early.compared)
 
-next_shows : (file : FileName) (r : BlockRef) (page index : ℕ) (bytes : Bytes) (damage : Damage) → r.first / 4096 ≤ page → ShowsGiven file r page index [] bytes damage → ShowsBlocks file r bytes damage
-next_shows file r page index bytes damage low (inl all) = all
-next_shows file r page index bytes damage low (inr both) = next_block file r page index bytes damage low both.0 both.1
+next_shows : (file : FileName) (r : BlockRef) (form : ListForm) (page index : ℕ) (bytes : Bytes) (damage : Damage) → r.first / 4096 ≤ page → ShowsGiven file r form page index [] bytes damage → ShowsBlocks file r form bytes damage
+next_shows file r form page index bytes damage low (inl all) = all
+next_shows file r form page index bytes damage low (inr both) = next_block file r form page index bytes damage low both.0 both.1
 
-pub next_shown : (v : View) (file : FileName) (r : BlockRef) (page index : ℕ) (f : ReadFault) → r.first / 4096 ≤ page → DamageShown v file (ShowsGiven file r page index []) f → DamageShown v file (ShowsBlocks file r) f
-next_shown v file r page index f low shown = shown_as (ShowsGiven file r page index []) (ShowsBlocks file r) v file f (λ bytes damage is shows. next_shows file r page index bytes damage low shows) shown
+pub next_shown : (v : View) (file : FileName) (r : BlockRef) (form : ListForm) (page index : ℕ) (f : ReadFault) → r.first / 4096 ≤ page → DamageShown v file (ShowsGiven file r form page index []) f → DamageShown v file (ShowsBlocks file r form) f
+next_shown v file r form page index f low shown = shown_as (ShowsGiven file r form page index []) (ShowsBlocks file r form) v file f (λ bytes damage is shows. next_shows file r form page index bytes damage low shows) shown
 
 -- an entry that a block gives
 pub here_given : (v : View) (file : FileName) (page index new_page new_index : ℕ) (window : Bytes) (found : Option TermEntry) → ((bytes : Bytes) → contents v file ≡ Some bytes → HasAt bytes (4096 * page) window)

@@ -4,15 +4,18 @@ use Rattle.sasi_types.specs.declared.tree.TreeRef.{TreeRef}
 use Rattle.sasi_formats.specs.Formats.{Fits, encoded}
 use Rattle.sasi_tokentree.specs.Damages.{is_tree_ref}
 use Rattle.std.proofs.lemmas.List.{length-map}
+use Rattle.std.specs.List.{AllByRecursion}
 use Rattle.std.specs.Prelude.{get_or}
 use Rattle.sasi_host.specs.declared.damage.FormatRule.{FormatRule}
 use Rattle.sasi_host.specs.Names.{Bytes}
 use Rattle.sasi_host.proofs.Offsets.{at_ends}
 use Rattle.sasi_termblocks.specs.declared.block_ref.BlockRef.{BlockRef}
+use Rattle.sasi_termblocks.specs.declared.list_form.ListForm.{ListForm}
 use Rattle.sasi_termblocks.specs.declared.term_entry.TermEntry.{TermEntry}
 use Rattle.sasi_termblocks.specs.Entries.{is_below, term, term_entry}
+use Rattle.sasi_termblocks.specs.Forms.{HasForm}
 use Rattle.sasi_termblocks.specs.Blocks.{Item, block, blocks, items_of}
-use Rattle.sasi_termblocks.specs.Windows.{BreaksCount, BreaksFront, BreaksOrder, BreaksTree, RefersWithin, number_at}
+use Rattle.sasi_termblocks.specs.Windows.{BreaksCount, BreaksForm, BreaksFront, BreaksOrder, BreaksTree, RefersWithin, number_at}
 use Rattle.sasi_termblocks.specs.Windows.BreaksFront.{in_count, in_start}
 use Rattle.sasi_termblocks.specs.Damages.{BreaksTerms}
 use Rattle.sasi_termblocks.specs.Descents.{level_at, level_items}
@@ -52,6 +55,17 @@ record IsEntry (first : ℕ) (item : Item) : Type 0 where
 are_entries : (first : ℕ) (entries : List TermEntry) → HaveBytes entries → HaveTrees first entries → Every (λ (i : Item). IsEntry first i) (items_of entries)
 are_entries first [] fit trees = tt
 are_entries first (e ∷ others) fit trees = (record { value = e; is = refl; fits = fit.0; tree = trees.0 }, are_entries first others fit.1 trees.1)
+
+-- an entry that has its pairs where this form has them
+record IsFormed (form : ListForm) (item : Item) : Type 0 where
+  pub value : TermEntry
+  pub is : item.bytes ≡ encoded term_entry value
+  pub fits : Fits term_entry value
+  pub formed : HasForm form value
+
+are_formed : (form : ListForm) (entries : List TermEntry) → HaveBytes entries → AllByRecursion (HasForm form) entries → Every (λ (i : Item). IsFormed form i) (items_of entries)
+are_formed form [] fit formed = tt
+are_formed form (e ∷ others) fit formed = (record { value = e; is = refl; fits = fit.0; formed = formed.0 }, are_formed form others fit.1 formed.1)
 
 refers : (first : ℕ) (tree : TreeRef) (list : Option TreeRef) → list ≡ Some tree → RefersWithin first list → is_tree_ref 16 first tree ≡ false → ⊥
 refers first tree list is within wrong = absurd (let no = sym (subst (λ (o : Option TreeRef). RefersWithin first o) is within) ∙ wrong in differ no)
@@ -136,3 +150,16 @@ module _ (bytes : Bytes) (r : BlockRef) (entries : List TermEntry) (has : HasBlo
       let value = every_at (λ (i : Item). IsEntry r.first i) here index d (block_every (λ (i : Item). IsEntry r.first i) items group (are_entries r.first entries has.fit has.trees)) within in
       let same : value.value ≡ broken.entry = one_entry term_entry (block here) index value.value broken.entry (value_begins term_entry here index d value.value one.fits within value.is value.fits) broken.has in
       refers r.first broken.tree value.value.list (ap (λ (e : TermEntry). e.list) same ∙ broken.list) value.tree broken.wrong
+
+  -- and so have all entries the form that they have
+  pub form_sound : (form : ListForm) (group index : ℕ) (rule_ : FormatRule) (at : ℕ) (seen : Bytes) → AllByRecursion (HasForm form) entries → group < length (blocks (items_of entries))
+      → BreaksForm form index (block (get_or (blocks (items_of entries)) group [])) rule_ at seen → ⊥
+  form_sound form group index rule_ at seen formed lt broken =
+      let items = items_of entries in
+      let here = get_or (blocks items) group [] in
+      let d : Item = record { term = []; bytes = [] } in
+      let one = is_block (blocks items) group (all_blocks items (are_small items (all_items bytes r entries has))) lt in
+      let within : index < length here = omega (arith, broken.within, count_is here one.fits) in
+      let value = every_at (λ (i : Item). IsFormed form i) here index d (block_every (λ (i : Item). IsFormed form i) items group (are_formed form entries has.fit formed)) within in
+      let same : value.value ≡ broken.entry = one_entry term_entry (block here) index value.value broken.entry (value_begins term_entry here index d value.value one.fits within value.is value.fits) broken.has in
+      broken.wrong (subst (λ (e : TermEntry). HasForm form e) same value.formed)

@@ -8,10 +8,11 @@ use Rattle.sasi_host.specs.declared.fault.ReadFault.TheVariants as read
 use Rattle.sasi_host.specs.Names.{Bytes}
 use Rattle.sasi_host.specs.Damages.{HasAt, ShowsEnd, seen_bytes}
 use Rattle.sasi_termblocks.specs.declared.block_ref.BlockRef.{BlockRef}
+use Rattle.sasi_termblocks.specs.declared.list_form.ListForm.{ListForm}
 use Rattle.sasi_termblocks.specs.declared.fault.BlockFault.{BlockFault}
 use Rattle.sasi_termblocks.specs.declared.fault.BlockFault.TheVariants.{OutOfMemory, Broken}
 use Rattle.sasi_termblocks.specs.Entries.{pointer, term_entry}
-use Rattle.sasi_termblocks.specs.Windows.{BreaksEntry, BreaksFront, BreaksNext, BreaksOrder, BreaksTree, HasEntry, IsBound, count_in}
+use Rattle.sasi_termblocks.specs.Windows.{BreaksEntry, BreaksForm, BreaksFront, BreaksNext, BreaksOrder, BreaksTree, HasEntry, IsBound, count_in}
 use Rattle.sasi_termblocks.specs.Descents.{high_page, low_page, page_of_top, pointer_to}
 use Rattle.sasi_termblocks.specs.BlockFaults.{BreaksFirstPointer, IsMisplaced, PointsTo}
 
@@ -43,9 +44,11 @@ BreaksPointers low high block broken at seen =
 abbrev pub BreaksSplit : ℕ → ℕ → Bytes → Bytes → FormatRule → ℕ → Bytes → Type 0
 BreaksSplit first page sought block broken at seen = BreaksTerms block broken at seen ⊎ ((first < page) × IsMisplaced false 0 sought block broken at seen)
 
--- and what breaks one of which an entry is given that isn't below this term, and whose tree stands in front of the first term block
-abbrev pub BreaksGiven : ℕ → ℕ → Bytes → Bytes → FormatRule → ℕ → Bytes → Type 0
-BreaksGiven first index least block broken at seen = BreaksTerms block broken at seen ⊎ IsMisplaced true index least block broken at seen ⊎ BreaksTree first index block broken at seen
+-- and what breaks one of which an entry is given that isn't below this term, has its pairs where this form has them, and whose tree
+-- stands in front of the first term block
+abbrev pub BreaksGiven : ℕ → ListForm → ℕ → Bytes → Bytes → FormatRule → ℕ → Bytes → Type 0
+BreaksGiven first form index least block broken at seen =
+    BreaksTerms block broken at seen ⊎ IsMisplaced true index least block broken at seen ⊎ BreaksTree first index block broken at seen ⊎ BreaksForm form index block broken at seen
 
 -- the damage is that of this file, in which a block on the page breaks a rule so, or which ends within it
 pub data ShowsBlock (Breaks : Bytes → FormatRule → ℕ → Bytes → Type 0) (file : FileName) (page : ℕ) (bytes : Bytes) (damage : Damage) : Type 0 where
@@ -77,26 +80,28 @@ pub record LeadsTo (bytes : Bytes) (ref : BlockRef) (sought : Bytes) (page index
   pub page_is : page ≡ (if nat_lt below (count_in block) then from else from + 1)
   pub index_is : index ≡ (if nat_lt below (count_in block) then below else 0)
 
--- the damage is that of this file, which breaks the format of the blocks with this reference
-pub data ShowsBlocks (file : FileName) (ref : BlockRef) (bytes : Bytes) (damage : Damage) : Type 0 where
+-- the damage is that of this file, which breaks the format of the blocks with this reference, whose entries have this form
+pub data ShowsBlocks (file : FileName) (ref : BlockRef) (form : ListForm) (bytes : Bytes) (damage : Damage) : Type 0 where
   -- it ends within the term blocks
-  ends_early : ShowsEnd (ref.first + 4096 * ref.blocks) file bytes damage → ShowsBlocks file ref bytes damage
+  ends_early : ShowsEnd (ref.first + 4096 * ref.blocks) file bytes damage → ShowsBlocks file ref form bytes damage
   -- a term block is damaged
-  in_terms : (page : ℕ) → ref.first / 4096 ≤ page → page < ref.first / 4096 + ref.blocks → ShowsBlock BreaksTerms file page bytes damage → ShowsBlocks file ref bytes damage
+  in_terms : (page : ℕ) → ref.first / 4096 ≤ page → page < ref.first / 4096 + ref.blocks → ShowsBlock BreaksTerms file page bytes damage → ShowsBlocks file ref form bytes damage
   -- or an entry refers to a tree that can't stand in front of the first one
-  misled : (page index : ℕ) → ref.first / 4096 ≤ page → page < ref.first / 4096 + ref.blocks → ShowsBlock (BreaksTree ref.first index) file page bytes damage → ShowsBlocks file ref bytes damage
+  misled : (page index : ℕ) → ref.first / 4096 ≤ page → page < ref.first / 4096 + ref.blocks → ShowsBlock (BreaksTree ref.first index) file page bytes damage → ShowsBlocks file ref form bytes damage
+  -- or an entry has another form
+  of_other_form : (page index : ℕ) → ref.first / 4096 ≤ page → page < ref.first / 4096 + ref.blocks → ShowsBlock (BreaksForm form index) file page bytes damage → ShowsBlocks file ref form bytes damage
   -- or a pointer block, to which the pointers above it lead
-  in_pointers : (level page : ℕ) → 0 < level → Leads bytes ref level page → ShowsBlock (BreaksPointers (low_page ref level) (high_page ref level page)) file page bytes damage → ShowsBlocks file ref bytes damage
+  in_pointers : (level page : ℕ) → 0 < level → Leads bytes ref level page → ShowsBlock (BreaksPointers (low_page ref level) (high_page ref level page)) file page bytes damage → ShowsBlocks file ref form bytes damage
   -- or the pointer blocks don't begin behind the term blocks, with a pointer to the first of these
-  behind_terms : 0 < ref.levels → ShowsBlock (BreaksFirstPointer (ref.first / 4096)) file (ref.first / 4096 + ref.blocks) bytes damage → ShowsBlocks file ref bytes damage
+  behind_terms : 0 < ref.levels → ShowsBlock (BreaksFirstPointer (ref.first / 4096)) file (ref.first / 4096 + ref.blocks) bytes damage → ShowsBlocks file ref form bytes damage
   -- or they lead a search behind the first term block, to one whose first entry isn't below the term
-  led_too_far : (sought : Bytes) (page : ℕ) → LeadsFor bytes ref sought 0 page → ref.first / 4096 < page → ShowsBlock (IsMisplaced false 0 sought) file page bytes damage → ShowsBlocks file ref bytes damage
+  led_too_far : (sought : Bytes) (page : ℕ) → LeadsFor bytes ref sought 0 page → ref.first / 4096 < page → ShowsBlock (IsMisplaced false 0 sought) file page bytes damage → ShowsBlocks file ref form bytes damage
   -- or to an entry that is below the term
-  led_too_near : (sought : Bytes) (page index : ℕ) → LeadsTo bytes ref sought page index → page < ref.first / 4096 + ref.blocks → ShowsBlock (IsMisplaced true index sought) file page bytes damage → ShowsBlocks file ref bytes damage
+  led_too_near : (sought : Bytes) (page index : ℕ) → LeadsTo bytes ref sought page index → page < ref.first / 4096 + ref.blocks → ShowsBlock (IsMisplaced true index sought) file page bytes damage → ShowsBlocks file ref form bytes damage
 
 -- what a scan shows that reads the entry with this index of a block, which isn't below this term
-abbrev pub ShowsGiven : FileName → BlockRef → ℕ → ℕ → Bytes → Bytes → Damage → Type 0
-ShowsGiven file ref page index least bytes damage = ShowsBlocks file ref bytes damage ⊎ ((page < ref.first / 4096 + ref.blocks) × ShowsBlock (IsMisplaced true index least) file page bytes damage)
+abbrev pub ShowsGiven : FileName → BlockRef → ListForm → ℕ → ℕ → Bytes → Bytes → Damage → Type 0
+ShowsGiven file ref form page index least bytes damage = ShowsBlocks file ref form bytes damage ⊎ ((page < ref.first / 4096 + ref.blocks) × ShowsBlock (IsMisplaced true index least) file page bytes damage)
 
 -- ---- where the term blocks end
 

@@ -1,5 +1,5 @@
 -- The bytes of a block's entries.
-use Rattle.std.specs.Prelude.{ℕ, Bool, true, ◌&&◌, ◌||◌, ◌==◌, nat_lt, List, [], Option, Some, None, refl}
+use Rattle.std.specs.Prelude.{ℕ, Bool, true, ◌||◌, ◌==◌, nat_lt, List, [], Option, Some, None, refl}
 use Rattle.std.specs.Int.{w8, w16, w64}
 use Rattle.std.specs.Ordering.{is_lt, nat_cmp}
 use Rattle.std.specs.Cmp.Lexicographic.{slice_cmp}
@@ -7,9 +7,10 @@ use Rattle.sasi_types.specs.declared.tree.Pair.{Pair}
 use Rattle.sasi_types.specs.declared.tree.TreeRef.{TreeRef}
 use Rattle.sasi_host.specs.Names.{Bytes}
 use Rattle.sasi_host.specs.declared.damage.FormatRule.TheVariants as rule
-use Rattle.sasi_formats.specs.Formats.{Format, Sized, Counted}
+use Rattle.sasi_formats.specs.Formats.{Format, Sized}
 use Rattle.sasi_formats.specs.Codings.{passing}
-use Rattle.sasi_formats.specs.Fields.{◌&◌, last, checked, mapped, number, in_range, tagged, select}
+use Rattle.sasi_formats.specs.Fields.{◌&◌, checked, mapped, number, in_range, tagged, select}
+pub use Rattle.sasi_sparse.specs.Inline.{is_before, is_behind, pair, few_pairs}
 use Rattle.sasi_termblocks.specs.declared.term_entry.TermEntry.{TermEntry}
 
 -- ---- terms
@@ -24,18 +25,6 @@ term = Sized (in_range w16 0 1024) rule.Text (passing (λ _. true))
 
 -- ---- the pairs of a term
 
--- by token, and then by place
-abbrev pub is_before : Pair → Pair → Bool
-is_before a b = nat_lt a.token b.token || (a.token == b.token && nat_lt a.place b.place)
-
-abbrev pub is_behind : Option Pair → Pair → Bool
-is_behind None pair = true
-is_behind (Some before) pair = is_before before pair
-
--- a token and a place
-abbrev pub pair : Format Pair
-pair = mapped (λ p. record { token = p.0; place = p.1 }) (λ p. (p.token, p.place)) (λ _. refl) (number w64 & number w64)
-
 -- the offset of a tree's root, and its number of pairs
 abbrev pub tree : Format TreeRef
 tree = mapped (λ t. record { root = t.0; pairs = t.1 }) (λ t. (t.root, t.pairs)) (λ _. refl) (number w64 & number w64)
@@ -46,10 +35,6 @@ pair_count = checked rule.Number 8 (λ n. nat_lt 0 n) (number w64)
 
 abbrev pub term_tree : Format TreeRef
 term_tree = mapped (λ t. record { root = t.0; pairs = t.1 }) (λ t. (t.root, t.pairs)) (λ _. refl) (number w64 & pair_count)
-
--- a count of one byte, and one to five pairs, which rise
-abbrev pub few_pairs : Format (List Pair)
-few_pairs = Counted (in_range w8 1 5) (λ before. checked rule.Order 8 (is_behind (last before)) pair)
 
 -- a tree, or a few pairs
 abbrev pub Postings : Type 0

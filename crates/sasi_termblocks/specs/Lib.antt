@@ -1,6 +1,7 @@
 pub mod Entries
 pub mod Blocks
 pub mod Writing
+pub mod Forms
 pub mod Windows
 pub mod Descents
 pub mod BlockFaults

@@ -1,6 +1,6 @@
 -- Scans of the entries of blocks in a file.
 use Rattle.std.specs.Prelude.{◌≡◌, ◌⊎◌, ℕ, ◌+◌, ◌*◌, ◌/◌, ◌^◌, ◌<◌, ◌≤◌, nat_lt, if◌then◌else◌, true, false, List, [], ◌∷◌, length, map, take, drop, get_or, Option, Some, None}
-use Rattle.std.specs.List.{flat_map}
+use Rattle.std.specs.List.{AllByRecursion, flat_map}
 use Rattle.sasi_host.specs.declared.name.FileName.{FileName}
 use Rattle.sasi_host.specs.Names.{Bytes}
 use Rattle.sasi_host.specs.View.{View, contents}
@@ -9,8 +9,10 @@ use Rattle.sasi_host.specs.declared.fault.ReadFault.{ReadFault}
 use Rattle.sasi_host.specs.Damages.{HasAt, OnDamage}
 use Rattle.sasi_formats.specs.Formats.{Fits}
 use Rattle.sasi_termblocks.specs.declared.block_ref.BlockRef.{BlockRef}
+use Rattle.sasi_termblocks.specs.declared.list_form.ListForm.{ListForm}
 use Rattle.sasi_termblocks.specs.declared.term_entry.TermEntry.{TermEntry}
 use Rattle.sasi_termblocks.specs.Entries.{is_below, term_entry}
+use Rattle.sasi_termblocks.specs.Forms.{HasForm}
 use Rattle.sasi_termblocks.specs.Windows.{EndsAtNext, HasEntry, RefersWithin, StartsBehind, count_in}
 use Rattle.sasi_termblocks.specs.BlockFaults.{IsAboveLast}
 use Rattle.sasi_termblocks.specs.Damages.{EndsTerms, LeadsTo}
@@ -55,10 +57,11 @@ pub record HasBlocks (bytes : Bytes) (ref : BlockRef) (entries : List TermEntry)
 
 -- ---- a scan
 
--- the view of a scan: the buffered file, where the blocks are, and the page and the index of the next entry
+-- the view of a scan: the buffered file, where the blocks are, where their entries have the pairs, and the page and the index of the next entry
 pub record Scan : Type 0 where
   pub buffered : Buffered
   pub blocks : BlockRef
+  pub form : ListForm
   pub page : ℕ
   pub index : ℕ
 
@@ -139,6 +142,7 @@ abbrev pub GivesTree : ℕ → Option TermEntry → Type 0
 GivesTree first None = Unit {0}
 GivesTree first (Some entry) = RefersWithin first entry.list
 
--- corruption is reported only where the file doesn't have the blocks
-abbrev pub NoFalseDamage : View → FileName → BlockRef → ReadFault → Type 0
-NoFalseDamage v file ref = OnDamage (λ _. (bytes : Bytes) (entries : List TermEntry) → contents v file ≡ Some bytes → HasBlocks bytes ref entries → ⊥)
+-- corruption is reported only where the file doesn't have the blocks, of entries that have this form
+abbrev pub NoFalseDamage : View → FileName → BlockRef → ListForm → ReadFault → Type 0
+NoFalseDamage v file ref form =
+    OnDamage (λ _. (bytes : Bytes) (entries : List TermEntry) → contents v file ≡ Some bytes → HasBlocks bytes ref entries → AllByRecursion (HasForm form) entries → ⊥)

@@ -14,8 +14,10 @@ use Rattle.sasi_tokentree.specs.Damages.{is_tree_ref}
 use Rattle.sasi_termblocks.specs.declared.fault.BlockFault.{BlockFault}
 use Rattle.sasi_termblocks.specs.declared.fault.BlockFault.TheVariants.{OutOfMemory}
 use Rattle.sasi_termblocks.specs.declared.fault.BlockFault.TheVariants as fault
+use Rattle.sasi_termblocks.specs.declared.list_form.ListForm.{ListForm}
 use Rattle.sasi_termblocks.specs.declared.term_entry.TermEntry.{TermEntry}
 use Rattle.sasi_termblocks.specs.Entries.{is_below, term, term_entry}
+use Rattle.sasi_termblocks.specs.Forms.{HasForm}
 
 -- the number of two bytes at an offset
 unfoldable pub number_at : Bytes → ℕ → ℕ
@@ -113,6 +115,16 @@ pub record BreaksTree (first : ℕ) (index : ℕ) (block : Bytes) (broken : Form
   pub rule_is : broken ≡ rule.Place
   pub at_is : at ≡ offset_in block index + (3 + length entry.term)
   pub seen_is : seen ≡ take 8 (drop (offset_in block index + (3 + length entry.term)) block)
+
+-- an entry has its pairs elsewhere than where this form has them; its flags, a byte, are behind the term's length and the term
+pub record BreaksForm (form : ListForm) (index : ℕ) (block : Bytes) (broken : FormatRule) (at : ℕ) (seen : Bytes) : Type 0 where
+  pub entry : TermEntry
+  pub within : index < count_in block
+  pub has : HasEntry term_entry block index entry
+  pub wrong : HasForm form entry → ⊥
+  pub rule_is : broken ≡ rule.Number
+  pub at_is : at ≡ offset_in block index + (2 + length entry.term)
+  pub seen_is : seen ≡ take 1 (drop (offset_in block index + (2 + length entry.term)) block)
 
 -- the fault is out of memory, or of this kind; its offset is that of a number of two bytes, and within a block from there
 abbrev pub IsFault : (FormatRule → ℕ → Bytes → Type 0) → BlockFault → Type 0

@@ -1,15 +1,17 @@
 // Reads the bytes of a block.
-ghost use Rattle.std.specs.Prelude.{◌≡◌, ◌+◌, ◌-◌, ◌*◌, ◌^◌, ◌<◌, ◌≤◌, ℕ, length, take, drop, IfErr, IfOk, OnOk};
+ghost use Rattle.std.specs.Prelude.{◌≡◌, ◌+◌, ◌-◌, ◌*◌, ◌^◌, ◌<◌, ◌≤◌, ℕ, length, take, drop, IfErr, IfOk, IsTrue, OnOk, false};
 ghost use Rattle.sasi_host.specs.declared.damage.FormatRule.TheVariants as rule;
 ghost use Rattle.sasi_formats.specs.Reader.{start};
 ghost use Rattle.sasi_termblocks.specs.Entries.{is_below, term, term_entry};
-ghost use Rattle.sasi_termblocks.specs.Windows.{BreaksCount, BreaksEntry, BreaksFront, BreaksStart, BreaksTree, EndsAtNext, HasEntry, HasSize, IsBound, IsFault, RefersWithin, StartsBehind, bytes_in, count_in, number_at, offset_in};
+ghost use Rattle.sasi_termblocks.specs.Forms.{HasForm};
+ghost use Rattle.sasi_termblocks.specs.Windows.{BreaksCount, BreaksEntry, BreaksForm, BreaksFront, BreaksStart, BreaksTree, EndsAtNext, HasEntry, HasSize, IsBound, IsFault, RefersWithin, StartsBehind, bytes_in, count_in, number_at, offset_in};
 ghost use Rattle.sasi_termblocks.specs.Descents.{pointer_to};
 ghost use Rattle.sasi_termblocks.specs.BlockFaults.{BreaksEnd, BreaksFirstPointer, BreaksLeast, BreaksSome, BreaksUpTo, IsAboveLast, IsAtLeast, IsBrokenAt, IsCompared, IsMoved, IsNear, IsPlaced, IsSearched, PointsTo};
 
 use crate::block_encode::BLOCK_BYTES;
 use crate::decode::{read_entry, read_pointer, read_term, skip_entry};
 use crate::fault::BlockFault;
+use crate::list_form::ListForm;
 use crate::term_entry::TermEntry;
 use sasi_fields::FieldReader;
 use sasi_formats::{Broken, FormatFault, broken_at};
@@ -220,6 +222,60 @@ pub fn check_tree(
     };
     if !is_tree_ref(TREES, first, tree) {
         return Err(wrong_root(block, index, entry.term.bytes().len()));
+    }
+    Ok(())
+}
+
+// The flags are wrong, of the entry with this index and a term of this size.
+fn wrong_flags(block: &[u8], index: usize, size: usize) -> BlockFault
+    requires whole { length block.now ≡ 4096 }
+    requires within { 4 + 2 * index ≤ 4096 }
+    requires short { size ≤ 1024 }
+    ensures near { IsNear result }
+    ensures is { IsBrokenAt rule.Number (offset_in block.now index + (2 + size)) (take 1 (drop (offset_in block.now index + (2 + size)) block.now)) result }
+{
+    let at = number_at(block, 2 + 2 * index) + (2 + size);
+    broken(
+        FormatRule::Number,
+        at,
+        first_byte(&block[at.min(BLOCK_BYTES)..]),
+    )
+}
+
+// The first byte, if there is one.
+fn first_byte(bytes: &[u8]) -> &[u8]
+    ensures { result.now ≡ take 1 bytes.now }
+{
+    &bytes[..bytes.len().min(1)]
+}
+
+// Whether the entry has its pairs where the form has them.
+fn has_form(form: ListForm, entry: &TermEntry) -> bool
+    ensures yes { IsTrue result → HasForm form entry.now }
+    ensures no { result ≡ false → HasForm form entry.now → ⊥ }
+{
+    match form {
+        ListForm::Tree => entry.list.is_some(),
+        ListForm::Inline => entry.list.is_none() && entry.inline.is_some(),
+    }
+}
+
+// Checks that the entry with this index has its pairs where the form has them.
+pub fn check_form(
+    block: &[u8],
+    index: usize,
+    entry: &TermEntry,
+    form: ListForm,
+) -> Result<(), BlockFault>
+    requires whole { length block.now ≡ 4096 }
+    requires within { 4 + 2 * index ≤ 4096 }
+    requires index { index < count_in block.now }
+    requires entry { HasEntry term_entry block.now index entry.now }
+    ensures ok { OnOk result (HasForm form entry.now) }
+    ensures seen { IfErr result (IsFault (BreaksForm form index block.now)) }
+{
+    if !has_form(form, entry) {
+        return Err(wrong_flags(block, index, entry.term.bytes().len()));
     }
     Ok(())
 }

@@ -1,11 +1,12 @@
 // Encodes the entries of blocks.
-ghost use Rattle.std.specs.Prelude.{◌≡◌, ◌≤◌, ◌++◌, ◌∷◌, [], length, OnOk};
-ghost use Rattle.sasi_formats.specs.Formats.{Fits, encoded, encoded_items};
-ghost use Rattle.sasi_termblocks.specs.Entries.{few_pairs, pair, pairs_of, pointer, postings, term, term_entry, tree};
+ghost use Rattle.std.specs.Prelude.{◌≡◌, ◌≤◌, ◌++◌, ◌∷◌, length, None, OnOk};
+ghost use Rattle.sasi_formats.specs.Formats.{Fits, encoded};
+ghost use Rattle.sasi_termblocks.specs.Entries.{few_pairs, pairs_of, pointer, postings, term, term_entry, tree};
 
 use crate::term_entry::TermEntry;
 use sasi_fields::{put_bytes, put_u8, put_u16, put_u64};
-use sasi_types::{Pair, PairList, TreeRef};
+use sasi_sparse::put_inline;
+use sasi_types::{PairList, TreeRef};
 use std::alloc::AllocError;
 
 // Appends an entry.
@@ -37,22 +38,12 @@ fn put_term(out: &mut Vec<u8>, bytes: &[u8]) -> Result<(), AllocError>
 
 // Appends the flags and the pairs, or their tree.
 fn put_postings(out: &mut Vec<u8>, entry: &TermEntry) -> Result<(), AllocError>
-    requires { length (pairs_of entry.now.inline) ≤ 5 }
+    requires { Fits postings (entry.now.list, entry.now.inline) }
     ensures { OnOk result (out.new.items ≡ out.old.items ++ encoded postings (entry.now.list, entry.now.inline)) }
 {
     match &entry.list {
         Some(tree) => put_tree(out, *tree),
-        None => put_inline(out, pairs_in(&entry.inline)),
-    }
-}
-
-// The pairs, if there are any.
-fn pairs_in(inline: &Option<PairList>) -> &[Pair]
-    ensures { result.now ≡ pairs_of inline.now }
-{
-    match inline {
-        Some(pairs) => pairs.as_slice(),
-        None => &[],
+        None => put_pairs(out, &entry.inline),
     }
 }
 
@@ -66,27 +57,14 @@ fn put_tree(out: &mut Vec<u8>, list: TreeRef) -> Result<(), AllocError>
 }
 
 // Appends a few pairs.
-fn put_inline(out: &mut Vec<u8>, pairs: &[Pair]) -> Result<(), AllocError>
-    requires { length pairs.now ≤ 5 }
-    ensures { OnOk result (out.new.items ≡ out.old.items ++ 5 ∷ encoded few_pairs pairs.now) }
+fn put_pairs(out: &mut Vec<u8>, inline: &Option<PairList>) -> Result<(), AllocError>
+    requires { Fits postings (None, inline.now) }
+    ensures { OnOk result (out.new.items ≡ out.old.items ++ 5 ∷ encoded few_pairs (pairs_of inline.now)) }
 {
+    // No entry that fits has neither a tree nor pairs.
+    let Some(pairs) = inline else {
+        return Ok(());
+    };
     put_u8(out, 5)?;
-    put_u8(out, pairs.len() as u8)?;
-    put_pairs(out, pairs)
-}
-
-fn put_pairs(out: &mut Vec<u8>, pairs: &[Pair]) -> Result<(), AllocError>
-    ensures { OnOk result (out.new.items ≡ out.old.items ++ encoded_items (λ _. encoded pair) [] pairs.now) }
-{
-    for each in pairs {
-        put_pair(out, *each)?;
-    }
-    Ok(())
-}
-
-fn put_pair(out: &mut Vec<u8>, each: Pair) -> Result<(), AllocError>
-    ensures { OnOk result (out.new.items ≡ out.old.items ++ encoded pair each) }
-{
-    put_u64(out, each.token)?;
-    put_u64(out, each.place)
+    put_inline(pairs, out)
 }

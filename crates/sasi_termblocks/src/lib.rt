@@ -11,6 +11,7 @@ mod decode;
 mod encode;
 mod fault;
 mod level_write;
+mod list_form;
 mod packer;
 mod pointers;
 mod position;
@@ -21,5 +22,6 @@ mod writer;
 
 pub use block_ref::BlockRef;
 pub use blocks::Blocks;
+pub use list_form::ListForm;
 pub use term_entry::TermEntry;
 pub use writer::BlockWriter;

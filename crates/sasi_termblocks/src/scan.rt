@@ -1,20 +1,24 @@
 // Scans the entries of blocks, one after another.
-ghost use Rattle.std.specs.Prelude.{◌≡◌, ◌+◌, ◌-◌, ◌*◌, ◌/◌, ◌^◌, ◌<◌, ◌≤◌, ◌⊎◌, List, ℕ, length, IfErr, IfOk, IsTrue, None, OnOk, Some, false};
+ghost use Rattle.std.specs.Prelude.{◌≡◌, ◌+◌, ◌-◌, ◌*◌, ◌/◌, ◌^◌, ◌<◌, ◌≤◌, ◌⊎◌, List, ℕ, length, IfErr, IfOk, IfSome, IsTrue, None, OnOk, Some, false};
 ghost use Rattle.sasi_host.specs.View.{contents, ReadCost};
 ghost use Rattle.sasi_host.specs.Damages.{DamageShown, HasAt};
 ghost use Rattle.sasi_host.specs.PageReading.{CanReadOn, HasReadOn};
+ghost use Rattle.sasi_termblocks.specs.declared.list_form.ListForm.{ListForm};
+ghost use Rattle.sasi_termblocks.specs.Forms.{HasForm};
 ghost use Rattle.sasi_termblocks.specs.Windows.{IsFault, count_in};
 ghost use Rattle.sasi_termblocks.specs.BlockFaults.{BreaksFirstPointer, PointsTo};
 ghost use Rattle.sasi_termblocks.specs.Damages.{BreaksGiven, EndsTerms, ShowsBlock, ShowsBlocks, ShowsGiven};
 ghost use Rattle.sasi_termblocks.specs.Scans.{EndsBelow, EndsPast, GivesEntry, GivesTree, IsNotBelow, ReadsFirst, ReadsHere, ReadsNext, ReadsSome};
 
 use crate::block::{
-    check_entry, check_least, check_order, check_tree, count_of, entry_at, first_pointer,
+    check_entry, check_form, check_least, check_order, check_tree, count_of, entry_at,
+    first_pointer,
 };
 use crate::block_encode::BLOCK_BYTES;
 use crate::block_read::{fault_of, load_block, loaded_block};
 use crate::block_ref::BlockRef;
 use crate::fault::BlockFault;
+use crate::list_form::ListForm;
 use crate::position::{Position, position_in};
 use crate::seek::{leaf_page, position_for};
 use crate::term_entry::TermEntry;
@@ -75,7 +79,7 @@ fn check_end<H: Host, P: PageReader>(
     requires first { blocks.first ≤ 2 ^ 62 }
     requires few { blocks.blocks ≤ 2 ^ 50 }
     ensures ok { OnOk result ((bytes : List ℕ) → contents (H.view host.old) buffered.old.file ≡ Some bytes → EndsTerms bytes blocks) }
-    ensures damaged { IfErr result (DamageShown (H.view host.old) buffered.old.file (ShowsBlocks buffered.old.file blocks)) }
+    ensures damaged { IfErr result (λ fault. (form : ListForm) → DamageShown (H.view host.old) buffered.old.file (ShowsBlocks buffered.old.file blocks form) fault) }
     ensures read { HasReadOn (P.agrees pages.new) (P.covers pages.old) (P.covers pages.new) (H.view host.old) (H.view host.new) buffered.old buffered.new }
     ensures causes { ReadCost 1 (H.view host.old) (H.view host.new) result }
 {
@@ -87,12 +91,13 @@ fn check_end<H: Host, P: PageReader>(
     Ok(())
 }
 
-// The entry with this index of a block on this page, which isn't below the least term and whose tree can stand in front of the
-// first term block, and the position behind it; none where it has no such entry.
+// The entry with this index of a block on this page, which isn't below the least term, has this form and refers to no tree behind
+// the first term block, and the position behind it; none where it has no such entry.
 fn entry_in(
     alloc: Global,
     block: &[u8],
     first: u64,
+    form: ListForm,
     position: Position,
     least: &[u8],
 ) -> Result<ScannedEntry, BlockFault>
@@ -101,7 +106,8 @@ fn entry_in(
     ensures ok { IfOk result (λ found. GivesEntry block.now position.page position.index found.position.page found.position.index found.entry) }
     ensures least { IfOk result (λ found. IsNotBelow least.now found.entry) }
     ensures tree { IfOk result (λ found. GivesTree first found.entry) }
-    ensures seen { IfErr result (IsFault (BreaksGiven first position.index least.now block.now)) }
+    ensures form { IfOk result (λ found. IfSome found.entry (HasForm form)) }
+    ensures seen { IfErr result (IsFault (BreaksGiven first form position.index least.now block.now)) }
 {
     let count = count_of(block)?;
     if position.index >= count {
@@ -114,6 +120,7 @@ fn entry_in(
     check_least(block, position.index, least)?;
     check_entry(alloc, block, position.index, count)?;
     let entry = entry_at(alloc, block, position.index)?;
+    check_form(block, position.index, &entry, form)?;
     check_tree(block, position.index, &entry, first)?;
     Ok(ScannedEntry {
         entry: Some(entry),
@@ -128,6 +135,7 @@ pub fn entry_from<H: Host, P: PageReader>(
     pages: &mut P,
     buffered: &mut BufferedFile,
     blocks: BlockRef,
+    form: ListForm,
     position: Position,
     least: &[u8],
 ) -> Result<ScannedEntry, ReadFault>
@@ -137,9 +145,10 @@ pub fn entry_from<H: Host, P: PageReader>(
     ensures stands { IfOk result (λ found. ReadsHere (H.view host.old) buffered.old.file position.page position.index found.position.page found.position.index found.entry) }
     ensures least { IfOk result (λ found. IsNotBelow least.now found.entry) }
     ensures tree { IfOk result (λ found. GivesTree blocks.first found.entry) }
+    ensures form { IfOk result (λ found. IfSome found.entry (HasForm form)) }
     ensures ends { IfOk result (λ found. EndsPast (H.view host.old) buffered.old.file blocks position.page position.index found.position.page found.position.index found.entry) }
     ensures low { IfOk result (λ found. blocks.first / 4096 ≤ found.position.page) }
-    ensures damaged { IfErr result (DamageShown (H.view host.old) buffered.old.file (ShowsGiven buffered.old.file blocks position.page position.index least.now)) }
+    ensures damaged { IfErr result (DamageShown (H.view host.old) buffered.old.file (ShowsGiven buffered.old.file blocks form position.page position.index least.now)) }
     ensures read { HasReadOn (P.agrees pages.new) (P.covers pages.old) (P.covers pages.new) (H.view host.old) (H.view host.new) buffered.old buffered.new }
     ensures causes { ReadCost 1 (H.view host.old) (H.view host.new) result }
 {
@@ -154,7 +163,14 @@ pub fn entry_from<H: Host, P: PageReader>(
         });
     }
     load_block(host, pages, buffered, position.page)?;
-    match entry_in(alloc, loaded_block(buffered), blocks.first, position, least) {
+    match entry_in(
+        alloc,
+        loaded_block(buffered),
+        blocks.first,
+        form,
+        position,
+        least,
+    ) {
         Ok(found) => Ok(found),
         Err(fault) => Err(fault_of(buffered.file(), position.page, fault)),
     }
@@ -167,6 +183,7 @@ pub fn first_from<H: Host, P: PageReader>(
     pages: &mut P,
     buffered: &mut BufferedFile,
     blocks: BlockRef,
+    form: ListForm,
     sought: &[u8],
 ) -> Result<ScannedEntry, ReadFault>
     requires read { CanReadOn (P.agrees pages.old) (H.view host.old) buffered.old }
@@ -174,9 +191,10 @@ pub fn first_from<H: Host, P: PageReader>(
     ensures stands { IfOk result (λ found. ReadsSome (H.view host.old) buffered.old.file found.entry) }
     ensures least { IfOk result (λ found. IsNotBelow sought.now found.entry) }
     ensures tree { IfOk result (λ found. GivesTree blocks.first found.entry) }
+    ensures form { IfOk result (λ found. IfSome found.entry (HasForm form)) }
     ensures ends { IfOk result (λ found. EndsBelow (H.view host.old) buffered.old.file blocks sought.now found.position.page found.position.index found.entry) }
     ensures low { IfOk result (λ found. blocks.first / 4096 ≤ found.position.page) }
-    ensures damaged { IfErr result (DamageShown (H.view host.old) buffered.old.file (ShowsBlocks buffered.old.file blocks)) }
+    ensures damaged { IfErr result (DamageShown (H.view host.old) buffered.old.file (ShowsBlocks buffered.old.file blocks form)) }
     ensures read { HasReadOn (P.agrees pages.new) (P.covers pages.old) (P.covers pages.new) (H.view host.old) (H.view host.new) buffered.old buffered.new }
     ensures causes { ReadCost (blocks.levels + 2) (H.view host.old) (H.view host.new) result }
 {
@@ -195,6 +213,6 @@ pub fn first_from<H: Host, P: PageReader>(
     }
     let page = leaf_page(host, pages, buffered, blocks, sought)?;
     let position = position_for(alloc, host, pages, buffered, first, page, sought)?;
-    let found = entry_from(alloc, host, pages, buffered, blocks, position, sought)?;
+    let found = entry_from(alloc, host, pages, buffered, blocks, form, position, sought)?;
     Ok(found)
 }

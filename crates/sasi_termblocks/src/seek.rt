@@ -4,6 +4,7 @@ ghost use Rattle.sasi_host.specs.View.{contents, ReadCost};
 ghost use Rattle.sasi_host.specs.Damages.{DamageShown};
 ghost use Rattle.sasi_host.specs.PageReading.{CanReadOn, HasReadOn};
 ghost use Rattle.sasi_termblocks.specs.declared.block_ref.BlockRef.{BlockRef};
+ghost use Rattle.sasi_termblocks.specs.declared.list_form.ListForm.{ListForm};
 ghost use Rattle.sasi_termblocks.specs.declared.term_entry.TermEntry.{TermEntry};
 ghost use Rattle.sasi_termblocks.specs.Windows.{EndsAtNext, IsBound, IsFault, count_in};
 ghost use Rattle.sasi_termblocks.specs.BlockFaults.{IsAboveLast, PointsTo};
@@ -186,7 +187,7 @@ pub fn leaf_page<H: Host, P: PageReader>(
     ensures led { IfOk result (λ page. (bytes : List ℕ) → contents (H.view host.old) buffered.old.file ≡ Some bytes → LeadsFor bytes blocks sought.now 0 page) }
     ensures low { IfOk result (λ page. blocks.first / 4096 ≤ page) }
     ensures high { IfOk result (λ page. page < blocks.first / 4096 + blocks.blocks) }
-    ensures damaged { IfErr result (DamageShown (H.view host.old) buffered.old.file (ShowsBlocks buffered.old.file blocks)) }
+    ensures damaged { IfErr result (λ fault. (form : ListForm) → DamageShown (H.view host.old) buffered.old.file (ShowsBlocks buffered.old.file blocks form) fault) }
     ensures read { HasReadOn (P.agrees pages.new) (P.covers pages.old) (P.covers pages.new) (H.view host.old) (H.view host.new) buffered.old buffered.new }
     ensures causes { ReadCost blocks.levels (H.view host.old) (H.view host.new) result }
 {

@@ -5,7 +5,7 @@ ghost use Rattle.sasi_formats.specs.Formats.{Fits};
 ghost use Rattle.sasi_tokentree.specs.Writes.{ChangesFrom, Writes};
 ghost use Rattle.sasi_termblocks.specs.declared.term_entry.TermEntry.{TermEntry};
 ghost use Rattle.sasi_termblocks.specs.Entries.{term_entry};
-ghost use Rattle.sasi_termblocks.specs.Blocks.{Cut, IsRefOf, add, items_of, levels_bytes, term_item};
+ghost use Rattle.sasi_termblocks.specs.Blocks.{Cut, IsRefOf, add, blocks, items_of, levels_bytes, term_item};
 ghost use Rattle.sasi_termblocks.specs.Writing.{HasPushed, IsSmall, Packs};
 
 use crate::block_ref::BlockRef;
@@ -58,6 +58,13 @@ impl BlockWriter {
         push_entry(&mut self.packer, &mut self.bytes, entry)?;
         self.terms = self.terms.saturating_add(1);
         Ok(())
+    }
+
+    /// How many term blocks the entries take so far.
+    pub fn blocks(&self) -> u64
+        ensures { (entries : List TermEntry) → HasPushed self.now entries → result ≡ length (blocks (items_of entries)) }
+    {
+        self.packer.first_terms.len() as u64
     }
 
     /// Writes the term blocks at this offset of the file, and the levels of pointer blocks behind them, each by one call of

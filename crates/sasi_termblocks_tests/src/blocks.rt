@@ -6,7 +6,7 @@ ghost use Rattle.sasi_termblocks_tests.specs.declared.fixture.TheConstants.{FILE
 
 use crate::fixture::{FILE, nth_term, write_blocks};
 use sasi_host::{Direct, MemHost};
-use sasi_termblocks::{BlockRef, Blocks, TermEntry};
+use sasi_termblocks::{BlockRef, Blocks, ListForm, TermEntry};
 use std::alloc::Global;
 use std::process::Abort;
 
@@ -125,7 +125,7 @@ fn seeks_and_goes_on(rt: HostRuntime) {
     let alloc = rt.alloc();
     let mut host = MemHost::new(alloc);
     let blocks = write_blocks(&rt, alloc, &mut host, 65, 1000);
-    let mut scan = Blocks::new(alloc, FILE, blocks);
+    let mut scan = Blocks::new(alloc, FILE, blocks, ListForm::Tree);
     let first = nth_term(&rt, alloc, 0, 1000);
     let fourth = nth_term(&rt, alloc, 3, 1000);
     let fifth = nth_term(&rt, alloc, 4, 1000);

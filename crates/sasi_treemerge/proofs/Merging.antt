@@ -1,11 +1,11 @@
 -- What a merge gives, step by step.
-use Rattle.std.specs.Prelude.{◌≡◌, ℕ, zero, suc, ◌+◌, ◌*◌, ◌<◌, ◌≤◌, ◌⊎◌, Bool, true, false, List, [], ◌∷◌, ◌++◌, length, drop, get_or, All, Contains, Option, None, Some, IfSome, IsSome, refl}
+use Rattle.std.specs.Prelude.{◌≡◌, ℕ, zero, suc, ◌+◌, ◌*◌, ◌<◌, ◌≤◌, ◌⊎◌, true, false, List, [], ◌∷◌, ◌++◌, length, drop, get_or, All, Contains, Option, None, Some, IfSome, IsSome, refl}
 use Rattle.std.proofs.Common.{◌∙◌, sym, ap, subst, arith, inl, inr, ⊎_elim}
 use Rattle.std.specs.List.Sorted.{IsPermutation}
 use Rattle.std.specs.Option.{option_to_list}
 use Rattle.std.specs.Ordering.{is_lt}
 use Rattle.std.specs.BinaryHeap.{IsHeap, KeepsHeap}
-use Rattle.std.proofs.lemmas.List.Elements.{All-append, All-cons, All-contains, All-contains_itself, All-from_recursion, All-head, All-nil, All-tail, All-weaker, Contains-append_cases, Contains-append_left, Contains-append_right, Contains-push}
+use Rattle.std.proofs.lemmas.List.Elements.{All-append, All-cons, All-contains, All-contains_itself, All-from_recursion, All-head, All-nil, All-tail, All-weaker, Contains-append_right}
 use Rattle.std.proofs.lemmas.List.Sorted.{All-permutation, Contains-permutation, IsPermutation-sym, sum_by-IsPermutation, sum_by_popped, sum_by_pushed}
 use Rattle.sasi_types.specs.declared.tree.Pair.{Pair}
 use Rattle.sasi_types.specs.declared.tree.TreeRef.{TreeRef}
@@ -26,27 +26,29 @@ use Rattle.std.proofs.lemmas.Bool.Decides.{leb_tells}
 use Rattle.sasi_tokentree.specs.Format.{HasTree}
 use Rattle.sasi_tokentree.specs.Scans.{HasEntry, HasPassed, PairScan, PassesOne, ReadsNextPair, StepsToPair}
 use Rattle.sasi_treemerge.specs.declared.merge.TreeMerge.{TreeMerge}
+use Rattle.sasi_treemerge.specs.declared.held_pair.HeldPair.{HeldPair}
 use Rattle.sasi_treemerge.specs.declared.tree_source.TreeSource.{TreeSource}
+use Rattle.sasi_treemerge.specs.Held.{held_cmp}
 use Rattle.sasi_treemerge.specs.Sources.{is_before, source_cmp}
-use Rattle.sasi_treemerge.specs.Merges.{Adds, AdvancesTo, CanMerge, Gives, IsAtHead, IsLeast, IsPairOf, IsRead, IsReadable, IsSourceIn, IsSourceOf, IsStillGiven, IsStillRead, ReadsEach, StepsBy, TreesStay, is_left, left_in, left_of, sources_of, unread_in, unread_of}
+use Rattle.sasi_treemerge.specs.Merges.{AdvancesTo, CanMerge, IsAtHead, IsPairOf, IsRead, IsReadable, IsSourceIn, IsSourceOf, IsStillGiven, IsStillRead, ReadsEach, StepsBy, TreesStay, held_of, is_left, left_in, left_of, sources_of, unread_in, unread_of}
 use Rattle.sasi_treemerge.proofs.PairOrder.{first_least, not_before_on}
 
 -- ---- lists
 
-contains_first : {X : Type 0} (x : X) (xs : List X) → Contains (x ∷ xs) x
+pub contains_first : {X : Type 0} (x : X) (xs : List X) → Contains (x ∷ xs) x
 contains_first x xs = (0, omega arith, refl)
 
-contains_later : {X : Type 0} (x y : X) (xs : List X) → Contains xs y → Contains (x ∷ xs) y
+pub contains_later : {X : Type 0} (x y : X) (xs : List X) → Contains xs y → Contains (x ∷ xs) y
 contains_later x y xs has = (suc has.0, omega (arith, has.1), has.2)
 
-contains_cases : {X : Type 0} (x y : X) (xs : List X) → Contains (x ∷ xs) y → (x ≡ y) ⊎ Contains xs y
+pub contains_cases : {X : Type 0} (x y : X) (xs : List X) → Contains (x ∷ xs) y → (x ≡ y) ⊎ Contains xs y
 contains_cases {X = X} x y xs has = from has.0 has.1 has.2
   where
     from : (k : ℕ) → k < length (x ∷ xs) → get_or (x ∷ xs) k y ≡ y → (x ≡ y) ⊎ Contains xs y
     from zero lt is = inl is
     from (suc k) lt is = inr (k, omega (arith, lt), is)
 
-contains_none : {X : Type 0} (xs : List X) (y : X) → xs ≡ [] → Contains xs y → ⊥
+pub contains_none : {X : Type 0} (xs : List X) (y : X) → xs ≡ [] → Contains xs y → ⊥
 contains_none xs y none has = omega (arith, has.1, ap length none)
 
 -- ---- one step
@@ -78,11 +80,10 @@ module _ (v : View) (file : FileName) (bytes : Bytes) (lists : List (List Pair))
   pub head_listed : IsPairOf lists head
   head_listed = record { pairs = own.pairs; listed = own.listed; has = subst (λ (p : Pair). Contains own.pairs p) (sym steps.head_is) head_first }
 
-  -- none of those that are left comes before it
-  pub head_least : (last : Option Pair) (floor : ℕ) → Gives bytes lists last floor old → (pair : Pair) → IsPairOf lists pair → is_left last floor pair ≡ true → is_before pair head ≡ false
-  head_least last floor gives pair of left =
-      let still = gives.all of.pairs pair of.listed of.has left in
-      let first = first_least of.pairs still.is.before still.source.tree.value.passed still.source.head pair still.is.tree.rising still.is.left still.gives in
+  -- no pair that a source still gives comes before it
+  pub given_least : (pairs : List Pair) (pair : Pair) → IsStillGiven bytes pairs old pair → is_before pair head ≡ false
+  given_least pairs pair still =
+      let first = first_least pairs still.is.before still.source.tree.value.passed still.source.head pair still.is.tree.rising still.is.left still.gives in
       let bound = All-contains (λ (s : TreeSource). is_lt (source_cmp steps.source s) ≡ false) old still.source (All-from_recursion _ old steps.least) still.there in
       ap (λ (p : Pair). is_before pair p) steps.head_is ∙ not_before_on pair still.source.head steps.source.head first bound
 
@@ -120,7 +121,8 @@ module _ (v : View) (file : FileName) (bytes : Bytes) (lists : List (List Pair))
     gives = subst (λ (l : List Pair). Contains l pair) (advances.3 bytes pairs own_reads is.tree) has;
   }
 
-  still_given : (last_now : Option Pair) (floor_now : ℕ) → is_left last_now floor_now head ≡ false → (pairs : List Pair) (pair : Pair) → is_left last_now floor_now pair ≡ true → IsStillGiven bytes pairs old pair → IsStillGiven bytes pairs new pair
+  -- once the head is no longer left, the others are still given
+  pub still_given : (last_now : Option Pair) (floor_now : ℕ) → is_left last_now floor_now head ≡ false → (pairs : List Pair) (pair : Pair) → is_left last_now floor_now pair ≡ true → IsStillGiven bytes pairs old pair → IsStillGiven bytes pairs new pair
   still_given last_now floor_now gone pairs pair left was = ⊎_elim
       (λ this.
       let is : IsSourceOf bytes pairs steps.source = subst (λ (s : TreeSource). IsSourceOf bytes pairs s) (sym this) was.is in
@@ -131,61 +133,6 @@ module _ (v : View) (file : FileName) (bytes : Bytes) (lists : List (List Pair))
       (contains_cases steps.source.head pair (drop steps.source.tree.value.passed pairs) has))
       (λ other. record { source = was.source; there = other_there was.source other; is = was.is; gives = was.gives })
       (contains_cases steps.source was.source steps.others (Contains-permutation old (steps.source ∷ steps.others) was.source steps.taken was.there))
-
-  -- once the head is no longer left, the others are still given
-  pub gives_on : (last : Option Pair) (floor : ℕ) (last_now : Option Pair) (floor_now : ℕ) → Gives bytes lists last floor old → ((pair : Pair) → is_left last_now floor_now pair ≡ true → is_left last floor pair ≡ true)
-      → is_left last_now floor_now head ≡ false → Gives bytes lists last_now floor_now new
-  gives_on last floor last_now floor_now gives fewer gone = record { each = each_on; all = λ pairs pair listed has left. still_given last_now floor_now gone pairs pair left (gives.all pairs pair listed has (fewer pair left)) }
-
--- where no source is left, no pair is
-pub gives_none : (bytes : Bytes) (lists : List (List Pair)) (last : Option Pair) (floor : ℕ) (sources : List TreeSource) → sources ≡ [] → Gives bytes lists last floor sources → IsLeast lists last floor None
-gives_none bytes lists last floor sources none gives = λ pair of. by_test (is_left last floor pair) refl of
-  where
-    by_test : {pair : Pair} (test : Bool) → is_left last floor pair ≡ test → IsPairOf lists pair → is_left last floor pair ≡ false
-    by_test true left of = let still = gives.all of.pairs _ of.listed of.has left in absurd (contains_none sources still.source none still.there)
-    by_test false left of = left
-
--- ---- one list more
-
-one_list : (pairs these : List Pair) → Contains (pairs ∷ []) these → these ≡ pairs
-one_list pairs these has = ⊎_elim (λ same. sym same) (λ none. absurd (contains_none [] these refl none)) (contains_cases pairs these [] has)
-
-pub adds_list : (v : View) (file : FileName) (bytes : Bytes) (lists : List (List Pair)) (last : Option Pair) (floor : ℕ) (list : TreeRef) (pairs : List Pair) (old new : List TreeSource) → Adds v file list old new
-    → contents v file ≡ Some bytes → HasTree bytes list pairs → Gives bytes lists last floor old → Gives bytes (lists ++ pairs ∷ []) last floor new
-adds_list v file bytes lists last floor list pairs old new adds reads tree gives = from adds.next adds.advances adds.put
-  where
-    kept : All (IsSourceIn bytes (lists ++ pairs ∷ [])) old
-    kept = All-weaker (IsSourceIn bytes lists) (IsSourceIn bytes (lists ++ pairs ∷ [])) (λ s is. record { pairs = is.pairs; listed = Contains-append_left lists (pairs ∷ []) is.pairs is.listed; is = is.is }) old gives.each
-
-    from : (next : Option TreeSource) → AdvancesTo v (record { buffered = record { file = file; page = None; bytes = [] }; tree = list; passed = 0 }) next → IsPermutation (option_to_list next ++ old) new → Gives bytes (lists ++ pairs ∷ []) last floor new
-    from None advances put = record {
-      each = All-permutation (IsSourceIn bytes (lists ++ pairs ∷ [])) old new put kept;
-      all = λ these pair listed has left. ⊎_elim
-          (λ before. let was = gives.all these pair before has left in record { source = was.source; there = Contains-permutation old new was.source put was.there; is = was.is; gives = was.gives })
-          (λ this. absurd (contains_none these pair (one_list pairs these this ∙ advances.1 bytes pairs reads tree) has))
-          (Contains-append_cases lists (pairs ∷ []) these listed);
-    }
-    from (Some next) advances put =
-        let is : IsSourceOf bytes pairs next = record { tree = subst (λ (t : TreeRef). HasTree bytes t pairs) (sym advances.0) tree; before = 0; left = advances.3 bytes pairs reads tree } in
-        record {
-          each = All-permutation (IsSourceIn bytes (lists ++ pairs ∷ [])) (next ∷ old) new put
-              (All-cons (IsSourceIn bytes (lists ++ pairs ∷ [])) next old (record { pairs = pairs; listed = Contains-push lists pairs; is = is }) kept);
-          all = λ these pair listed has left. ⊎_elim
-              (λ before. let was = gives.all these pair before has left in record {
-                source = was.source;
-                there = Contains-permutation (next ∷ old) new was.source put (contains_later next was.source old was.there);
-                is = was.is;
-                gives = was.gives;
-              })
-              (λ this. let same = one_list pairs these this in record {
-                source = next;
-                there = Contains-permutation (next ∷ old) new next put (contains_first next old);
-                is = subst (λ (l : List Pair). IsSourceOf bytes l next) (sym same) is;
-                gives = subst (λ (l : List Pair). Contains (next.head ∷ drop next.tree.value.passed l) pair) (sym same)
-                    (subst (λ (l : List Pair). Contains l pair) (advances.3 bytes pairs reads tree) (subst (λ (l : List Pair). Contains l pair) same has));
-              })
-              (Contains-append_cases lists (pairs ∷ []) these listed);
-        }
 
 -- ---- how many pairs are left
 
@@ -212,9 +159,20 @@ at_head_still a b file source same is = record {
 pub merge_still : (a b : View) (merge : TreeMerge) → Changes Same a b → CanMerge a merge → CanMerge b merge
 merge_still a b merge same can = record {
   heap = can.heap;
+  held_heap = can.held_heap;
   each = All-weaker (IsReadable a merge.file) (IsReadable b merge.file)
       (λ s is. record { named = is.named; buffered = buffered_after s.tree.value.buffered a b same is.buffered; at_head = at_head_still a b merge.file s same is.at_head }) (sources_of merge) can.each;
 }
+
+-- where its pairs in memory change alone
+pub can_hold : (a b : View) (merge new : TreeMerge) → Changes Same a b → sources_of new ≡ sources_of merge → new.file ≡ merge.file → IsHeap held_cmp (held_of new) → CanMerge a merge → CanMerge b new
+can_hold a b merge new same sources file held can =
+    let now = merge_still a b merge same can in
+    record {
+      heap = subst (λ (l : List TreeSource). IsHeap source_cmp l) (sym sources) can.heap;
+      held_heap = held;
+      each = subst (λ (l : List TreeSource). All (IsReadable b new.file) l) (sym sources) (subst (λ (n : FileName). All (IsReadable b n) (sources_of merge)) (sym file) now.each);
+    }
 
 -- ---- a scan advances
 
@@ -244,11 +202,12 @@ source_readable v b file scan found source same is scanned named buffered at_hea
     }
 
 pub can_add : (a b : View) (merge new : TreeMerge) (source : TreeSource) → CanMerge a merge → Changes Same a b → KeepsHeap source_cmp (sources_of merge) (sources_of new) → IsPermutation (source ∷ sources_of merge) (sources_of new) → new.file ≡ merge.file
-    → IsReadable b merge.file source → CanMerge b new
-can_add a b merge new source can same keeps put file readable =
+    → held_of new ≡ held_of merge → IsReadable b merge.file source → CanMerge b new
+can_add a b merge new source can same keeps put file held readable =
     let now = merge_still a b merge same can in
     record {
       heap = keeps can.heap;
+      held_heap = subst (λ (l : List HeldPair). IsHeap held_cmp l) (sym held) can.held_heap;
       each = subst (λ (n : FileName). All (IsReadable b n) (sources_of new)) (sym file)
           (All-permutation (IsReadable b merge.file) (source ∷ sources_of merge) (sources_of new) put (All-cons (IsReadable b merge.file) source (sources_of merge) readable now.each));
     }
@@ -256,11 +215,12 @@ can_add a b merge new source can same keeps put file readable =
 pub first_readable : (v : View) (merge : TreeMerge) (source : TreeSource) (others : List TreeSource) → CanMerge v merge → IsPermutation (sources_of merge) (source ∷ others) → IsReadable v merge.file source
 first_readable v merge source others can taken = All-head (IsReadable v merge.file) source others (All-permutation (IsReadable v merge.file) (sources_of merge) (source ∷ others) taken can.each)
 
-pub rest_can : (a b : View) (merge new : TreeMerge) (source : TreeSource) → CanMerge a merge → Changes Same a b → IsPermutation (sources_of merge) (source ∷ sources_of new) → IsHeap source_cmp (sources_of new) → new.file ≡ merge.file → CanMerge b new
-rest_can a b merge new source can same taken heap file =
+pub rest_can : (a b : View) (merge new : TreeMerge) (source : TreeSource) → CanMerge a merge → Changes Same a b → IsPermutation (sources_of merge) (source ∷ sources_of new) → IsHeap source_cmp (sources_of new) → new.file ≡ merge.file → held_of new ≡ held_of merge → CanMerge b new
+rest_can a b merge new source can same taken heap file held =
     let now = merge_still a b merge same can in
     record {
       heap = heap;
+      held_heap = subst (λ (l : List HeldPair). IsHeap held_cmp l) (sym held) can.held_heap;
       each = subst (λ (n : FileName). All (IsReadable b n) (sources_of new)) (sym file)
           (All-tail (IsReadable b merge.file) source (sources_of new) (All-permutation (IsReadable b merge.file) (sources_of merge) (source ∷ sources_of new) taken now.each));
     }

@@ -1,3 +1,4 @@
 pub mod Sources
+pub mod Held
 pub mod Merges
 pub mod MergeDamages

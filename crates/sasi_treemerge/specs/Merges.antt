@@ -1,5 +1,5 @@
--- A merge of the pairs of several trees of a file.
-use Rattle.std.specs.Prelude.{◌≡◌, ◌⊎◌, ℕ, ◌+◌, ◌-◌, ◌<◌, ◌≤◌, nat_le, Bool, true, false, ◌&&◌, List, [], ◌∷◌, ◌++◌, drop, All, Contains, Option, None, Some, Result, Ok, Err}
+-- A merge of the pairs of several trees of a file, and of pairs in memory.
+use Rattle.std.specs.Prelude.{◌≡◌, ◌≢◌, ◌⊎◌, ℕ, ◌+◌, ◌-◌, ◌<◌, ◌≤◌, nat_le, Bool, true, false, ◌&&◌, List, [], ◌∷◌, ◌++◌, drop, length, All, Contains, Option, None, Some, Result, Ok, Err}
 use Rattle.std.specs.List.{sum_by}
 use Rattle.std.specs.List.Sorted.{IsPermutation}
 use Rattle.std.specs.Option.{option_to_list}
@@ -11,11 +11,13 @@ use Rattle.sasi_host.specs.Names.{Bytes}
 use Rattle.sasi_host.specs.View.{View, contents}
 use Rattle.sasi_host.specs.Buffered.{IsBuffered}
 use Rattle.sasi_host.specs.declared.fault.ReadFault.{ReadFault}
-use Rattle.sasi_tokentree.specs.Format.{HasTree}
+use Rattle.sasi_tokentree.specs.Format.{HasTree, pair_at}
 use Rattle.sasi_tokentree.specs.Scans.{HasEntry, HasPassed, PairScan, ReadsEntry}
+use Rattle.sasi_treemerge.specs.declared.held_pair.HeldPair.{HeldPair}
 use Rattle.sasi_treemerge.specs.declared.tree_source.TreeSource.{TreeSource}
 use Rattle.sasi_treemerge.specs.declared.merge.TreeMerge.{TreeMerge}
 use Rattle.sasi_treemerge.specs.Sources.{is_before, source_cmp}
+use Rattle.sasi_treemerge.specs.Held.{IsHeld, held_cmp}
 
 -- ---- what is left
 
@@ -45,7 +47,12 @@ abbrev pub last_after : Option Pair → Option Pair → Option Pair
 last_after last None = last
 last_after last (Some found) = Some found
 
--- ---- sources
+-- ---- sources, and pairs in memory
+
+-- what a merge has: scans of trees, and pairs in memory
+pub record Parts : Type 0 where
+  pub sources : List TreeSource
+  pub pairs : List HeldPair
 
 -- the file has the tree of these pairs, and the source is a scan of it whose head is its next pair
 pub record IsSourceOf (bytes : Bytes) (pairs : List Pair) (source : TreeSource) : Type 0 where
@@ -66,10 +73,11 @@ pub record IsStillGiven (bytes : Bytes) (pairs : List Pair) (sources : List Tree
   pub is : IsSourceOf bytes pairs source
   pub gives : Contains (source.head ∷ drop source.tree.value.passed pairs) pair
 
--- the sources are those of the lists, and give each of their pairs that is left
-pub record Gives (bytes : Bytes) (lists : List (List Pair)) (last : Option Pair) (floor : ℕ) (sources : List TreeSource) : Type 0 where
-  pub each : All (IsSourceIn bytes lists) sources
-  pub all : (pairs : List Pair) (pair : Pair) → Contains lists pairs → Contains pairs pair → is_left last floor pair ≡ true → IsStillGiven bytes pairs sources pair
+-- the sources are those of the lists and the pairs in memory are pairs of them, and they give each of the lists' pairs that is left
+pub record Gives (bytes : Bytes) (lists : List (List Pair)) (last : Option Pair) (floor : ℕ) (parts : Parts) : Type 0 where
+  pub each : All (IsSourceIn bytes lists) parts.sources
+  pub held : (pair : Pair) → IsHeld parts.pairs pair → IsPairOf lists pair
+  pub all : (pairs : List Pair) (pair : Pair) → Contains lists pairs → Contains pairs pair → is_left last floor pair ≡ true → IsStillGiven bytes pairs parts.sources pair ⊎ IsHeld parts.pairs pair
 
 -- the head is the last entry that the scan has passed, in any file
 pub record IsAtHead (v : View) (file : FileName) (source : TreeSource) : Type 0 where
@@ -118,14 +126,25 @@ abbrev pub ReadsEach : View → FileName → List TreeSource → List TreeSource
 ReadsEach v file old new = (source : TreeSource) (index : ℕ) → Contains old source → source.tree.value.passed ≤ index → index < source.tree.value.tree.pairs
     → IsRead v file source.tree.value.tree index ⊎ IsStillRead new source.tree.value.tree index
 
+-- each pair in memory is still there, or isn't left, or was given
+abbrev pub KeepsHeld : Option Pair → ℕ → Option Pair → List HeldPair → List HeldPair → Type 0
+KeepsHeld last floor found old new = (pair : Pair) → IsHeld old pair → IsHeld new pair ⊎ ((is_left last floor pair ≡ false) ⊎ (found ≡ Some pair))
+
 -- ---- a merge
 
 abbrev pub sources_of : TreeMerge → List TreeSource
 sources_of merge = heap_items merge.sources
 
+abbrev pub held_of : TreeMerge → List HeldPair
+held_of merge = heap_items merge.pairs
+
+abbrev pub parts_of : TreeMerge → Parts
+parts_of merge = record { sources = sources_of merge; pairs = held_of merge }
+
 -- the merge can go on
 pub record CanMerge (v : View) (merge : TreeMerge) : Type 0 where
   pub heap : IsHeap source_cmp (sources_of merge)
+  pub held_heap : IsHeap held_cmp (held_of merge)
   pub each : All (IsReadable v merge.file) (sources_of merge)
 
 -- ---- one step
@@ -148,12 +167,84 @@ pub record StepsBy (v : View) (head : Pair) (old new : List TreeSource) : Type 0
   pub advances : AdvancesTo v source.tree.value next
   pub put : IsPermutation (option_to_list next ++ others) new
 
+-- the least head is that of a source, or there is no source
 abbrev pub Steps : View → List TreeSource → List TreeSource → Option Pair → Type 0
 Steps v old new None = (old ≡ []) × (new ≡ [])
 Steps v old new (Some head) = StepsBy v head old new
 
+-- no pair in memory comes before this one
+abbrev pub NoneHeldBefore : List HeldPair → Pair → Type 0
+NoneHeldBefore held pair = (one : Pair) → IsHeld held one → is_before one pair ≡ false
+
+-- no head does
+abbrev pub NoHeadBefore : List TreeSource → Pair → Type 0
+NoHeadBefore sources pair = All (λ source. is_before source.head pair ≡ false) sources
+
+-- the pair in memory is taken out, before which nothing comes
+pub record TakesHeld (head : Pair) (old new : Parts) : Type 0 where
+  pub sources_stay : new.sources ≡ old.sources
+  pub taken : IsPermutation old.pairs (record { pair = head } ∷ new.pairs)
+  pub least : NoneHeldBefore old.pairs head
+  pub before_heads : NoHeadBefore old.sources head
+
+-- a source steps, before whose head nothing comes
+pub record TakesHead (v : View) (head : Pair) (old new : Parts) : Type 0 where
+  pub steps : StepsBy v head old.sources new.sources
+  pub held_stay : new.pairs ≡ old.pairs
+  pub before_held : NoneHeldBefore old.pairs head
+
+-- no head comes before the least pair in memory, and there is one
+abbrev pub HeldFirst : List TreeSource → List HeldPair → Type 0
+HeldFirst sources held = ((one : HeldPair) → IsUpperBound held_cmp one held → NoHeadBefore sources one.pair) × (held ≢ [])
+
+-- no pair in memory comes before the least head; there is none where there is no source
+abbrev pub HeadsFirst : List TreeSource → List HeldPair → Type 0
+HeadsFirst sources held = ((source : TreeSource) → Contains sources source → IsUpperBound source_cmp source sources → NoneHeldBefore held source.head) × (sources ≡ [] → held ≡ [])
+
+-- the least pair is taken out; there is none where neither a source nor a pair in memory is left
+abbrev pub Takes : View → Parts → Parts → Option Pair → Type 0
+Takes v old new None = (old.sources ≡ []) × (old.pairs ≡ []) × (new.sources ≡ []) × (new.pairs ≡ [])
+Takes v old new (Some head) = TakesHeld head old new ⊎ TakesHead v head old new
+
+-- ---- more of them
+
+-- one pair in memory more
+abbrev pub HoldsOne : Pair → List HeldPair → List HeldPair → Type 0
+HoldsOne pair old new = IsPermutation (record { pair = pair } ∷ old) new
+
+-- the pairs in memory are those before and these
+pub record HoldsMore (more : List Pair) (old new : List HeldPair) : Type 0 where
+  pub kept : (pair : Pair) → IsHeld old pair → IsHeld new pair
+  pub added : (pair : Pair) → Contains more pair → IsHeld new pair
+  pub only : (pair : Pair) → IsHeld new pair → IsHeld old pair ⊎ Contains more pair
+
+-- pairs in memory more
+pub record AddsPairs (more : List Pair) (old new : Parts) : Type 0 where
+  pub sources_stay : new.sources ≡ old.sources
+  pub put : HoldsMore more old.pairs new.pairs
+
+-- these are all entries of the tree with this reference, even where the tree is damaged
+pub record ReadsWhole (v : View) (file : FileName) (list : TreeRef) (read : List Pair) : Type 0 where
+  pub count : length read ≡ list.pairs
+  pub stands : (index : ℕ) → index < list.pairs → (bytes : Bytes) → contents v file ≡ Some bytes → HasEntry bytes list index (pair_at read index)
+  pub is : (bytes : Bytes) (pairs : List Pair) → contents v file ≡ Some bytes → HasTree bytes list pairs → read ≡ pairs
+
+-- all pairs of a tree are in memory
+pub record HoldsTree (v : View) (file : FileName) (list : TreeRef) (old new : List HeldPair) : Type 0 where
+  pub read : List Pair
+  pub whole : ReadsWhole v file list read
+  pub put : HoldsMore read old new
+
 -- one source more, at the first pair of the tree with this reference, if it has one
-pub record Adds (v : View) (file : FileName) (list : TreeRef) (old new : List TreeSource) : Type 0 where
+pub record AddsSource (v : View) (file : FileName) (list : TreeRef) (old new : List TreeSource) : Type 0 where
   pub next : Option TreeSource
   pub advances : AdvancesTo v (record { buffered = record { file = file; page = None; bytes = [] }; tree = list; passed = 0 }) next
   pub put : IsPermutation (option_to_list next ++ old) new
+
+-- a tree of one node is in memory, and a larger one is a source
+abbrev pub AddsIf : View → FileName → TreeRef → Bool → Parts → Parts → Type 0
+AddsIf v file list true old new = (new.sources ≡ old.sources) × HoldsTree v file list old.pairs new.pairs
+AddsIf v file list false old new = (new.pairs ≡ old.pairs) × AddsSource v file list old.sources new.sources
+
+abbrev pub Adds : View → FileName → TreeRef → Parts → Parts → Type 0
+Adds v file list old new = AddsIf v file list (nat_le list.pairs 255) old new

@@ -35,6 +35,7 @@ module _ (a b : View) where
     named = is.named;
     merge = record {
       heap = is.merge.heap;
+      held_heap = is.merge.held_heap;
       each = All-weaker (IsReadable a search.merge.file) (IsReadable b search.merge.file) (readable_moves search.merge.file (subst (λ (n : FileName). ReadsSame n) (sym is.named) same)) (sources_of search.merge) is.merge.each;
     };
     listed = λ bytes reads. is.listed bytes (sym same ∙ reads);
@@ -42,7 +43,7 @@ module _ (a b : View) where
   }
 
   open_moves : (opened : OpenIndexFile) (content : IndexContent) → ReadsSame opened.file → IsOpenOn a opened content → IsOpenOn b opened content
-  open_moves opened content same is = record { bytes = is.bytes; reads = same ∙ is.reads; index_file = is.index_file; kind = is.kind; blocks = is.blocks; spill = is.spill }
+  open_moves opened content same is = record { bytes = is.bytes; reads = same ∙ is.reads; index_file = is.index_file; mode = is.mode; kind = is.kind; blocks = is.blocks; spill = is.spill }
 
   pub searching_moves : (search : Searching) (content : IndexContent) → ReadsSame search.index.file → IsSearching a search content → IsSearching b search content
   unfolding open_moves

@@ -2,7 +2,7 @@ use Rattle.std.proofs.Common.{◌≡◌, ◌∙◌, ap, arith, sym, true, refl}
 use Rattle.std.proofs.lemmas.Result.{err_from_is_err_and}
 use Rattle.sasi_types.specs.declared.column.ColumnType.{ColumnType}
 use Rattle.sasi_host.proofs.DamageLaws.{shown_before}
-use Rattle.sasi_treemerge.specs.Merges.{sources_of}
+use Rattle.sasi_treemerge.specs.Merges.{parts_of, sources_of}
 use Rattle.sasi_indexread.specs.Asked.{asks_none}
 use Rattle.sasi_indexread.specs.Damages.{ShowsIndex}
 use Rattle.sasi_indexread.proofs.Callers.{listed_still, open_still}
@@ -27,23 +27,23 @@ pub returns-then-asks_none-clause-ok : goal.returns-then-asks_none-clause-ok
 returns-then-asks_none-clause-ok g c content on =
     let index = c.args.index.now in
     let asks : asks_none index.kind c.args.op.now ≡ true = ap (λ (k : ColumnType). asks_none k c.args.op.now) (sym c.kind.ensures) ∙ sym c.asks_none.ensures ∙ c.if-asks_none.true in
-    spill_alone content index c.args.op.now c.args.body.now on.bytes c.add.new.self.last c.add.new.self.floor (sources_of c.add.new.self) on.kind asks
-    (spill_gives (g.H.Host.view c.args.host.now) index c.args.merge.now.file c.spill.result c.add.new.self.last c.add.new.self.floor (sources_of c.args.merge.now) (sources_of c.add.new.self)
-    (λ bytes is. (g.met.H.Host.sound c.args.host.now).fits index.file bytes is) c.requires.named c.spill.ensures.is c.requires.empty c.in_ok-add.ensures.ok content on)
+    spill_alone content index c.args.op.now c.args.body.now on.bytes c.add.new.self.last c.add.new.self.floor (parts_of c.add.new.self) on.kind asks
+    (spill_gives (g.H.Host.view c.args.host.now) index c.args.merge.now.file c.spill.result c.add.new.self.last c.add.new.self.floor (parts_of c.args.merge.now) (parts_of c.add.new.self)
+    (λ bytes is. (g.met.H.Host.sound c.args.host.now).fits index.file bytes is) c.requires.named c.spill.ensures.is c.requires.empty c.requires.none_held c.in_ok-add.ensures.ok content on)
 
 pub returns-then-asks_none-clause-listed : goal.returns-then-asks_none-clause-listed
 returns-then-asks_none-clause-listed g c =
-    spill_listed (g.H.Host.view c.args.host.now) c.args.index.now c.args.merge.now.file c.spill.result (sources_of c.args.merge.now) (sources_of c.add.new.self) c.spill.ensures.is c.spill.ensures.possible c.requires.empty c.in_ok-add.ensures.ok
+    spill_listed (g.H.Host.view c.args.host.now) c.args.index.now c.args.merge.now.file c.spill.result (parts_of c.args.merge.now) (parts_of c.add.new.self) c.spill.ensures.is c.spill.ensures.possible c.requires.empty c.in_ok-add.ensures.ok
 
 pub add_terms-requires-clause-listed : goal.add_terms-requires-clause-listed
 add_terms-requires-clause-listed g c =
     listed_now (g.H.Host.view c.args.host.now) (g.H.Host.view c.add.new.host) c.args.index.now (sources_of c.add.new.self) c.add.ensures.read.changes
-    (spill_listed (g.H.Host.view c.args.host.now) c.args.index.now c.args.merge.now.file c.spill.result (sources_of c.args.merge.now) (sources_of c.add.new.self) c.spill.ensures.is c.spill.ensures.possible c.requires.empty c.in_ok-add.ensures.ok)
+    (spill_listed (g.H.Host.view c.args.host.now) c.args.index.now c.args.merge.now.file c.spill.result (parts_of c.args.merge.now) (parts_of c.add.new.self) c.spill.ensures.is c.spill.ensures.possible c.requires.empty c.in_ok-add.ensures.ok)
 
 pub add_terms-requires-clause-spill : goal.add_terms-requires-clause-spill
 add_terms-requires-clause-spill g c content on =
-    spill_gives_now (g.H.Host.view c.args.host.now) (g.H.Host.view c.add.new.host) c.args.index.now c.args.merge.now.file c.spill.result c.add.new.self.last c.add.new.self.floor (sources_of c.args.merge.now) (sources_of c.add.new.self) c.add.ensures.read.changes
-    (λ bytes is. (g.met.H.Host.sound c.args.host.now).fits c.args.index.now.file bytes is) c.requires.named c.spill.ensures.is c.requires.empty c.in_ok-add.ensures.ok content on
+    spill_gives_now (g.H.Host.view c.args.host.now) (g.H.Host.view c.add.new.host) c.args.index.now c.args.merge.now.file c.spill.result c.add.new.self.last c.add.new.self.floor (parts_of c.args.merge.now) (parts_of c.add.new.self) c.add.ensures.read.changes
+    (λ bytes is. (g.met.H.Host.sound c.args.host.now).fits c.args.index.now.file bytes is) c.requires.named c.spill.ensures.is c.requires.empty c.requires.none_held c.in_ok-add.ensures.ok content on
 
 pub returns-in_err-add_terms-clause-damaged : goal.returns-in_err-add_terms-clause-damaged
 returns-in_err-add_terms-clause-damaged g c =
@@ -60,7 +60,7 @@ returns-in_err-add_terms-clause-read g c = read_both _ _ _ _ _ _ _ _ c.args.inde
 
 pub returns-clause-ok : goal.returns-clause-ok
 returns-clause-ok g c content on =
-    gives_before (g.H.Host.view c.args.host.now) (g.H.Host.view c.add.new.host) c.args.index.now c.args.op.now c.args.body.now c.add_terms.new.merge.last c.add_terms.new.merge.floor (sources_of c.add_terms.new.merge) c.add.ensures.read.changes
+    gives_before (g.H.Host.view c.args.host.now) (g.H.Host.view c.add.new.host) c.args.index.now c.args.op.now c.args.body.now c.add_terms.new.merge.last c.add_terms.new.merge.floor (parts_of c.add_terms.new.merge) c.add.ensures.read.changes
     c.in_ok-add_terms.ensures.ok content on
 
 pub returns-clause-listed : goal.returns-clause-listed

@@ -34,7 +34,7 @@ loop-posting-preserved g c =
     in
     let causes = c.in_ok-add_posting.ensures.causes in
     one_more _ _ _ c.args.gather.now.postings c.next.new.self.postings c.in-Some.posting c.args.writer.now c.loop-posting.writer c.add_posting.new.writer c.loop-posting.spill c.add_posting.new.spill here
-    c.in_ok-add_posting.ensures.keeps c.in_ok-add_posting.ensures.ok c.in_ok-add_posting.ensures.ready c.in_ok-add_posting.ensures.room c.in_ok-add_posting.ensures.file c.in_ok-add_posting.ensures.changes
+    c.in_ok-add_posting.ensures.keeps c.in_ok-add_posting.ensures.ok c.in_ok-add_posting.ensures.ready c.in_ok-add_posting.ensures.room c.in_ok-add_posting.ensures.file c.in_ok-add_posting.ensures.mode c.in_ok-add_posting.ensures.changes
     (record { disk = causes.ok; out = causes.out; reads = causes.reads })
 
 pub returns-in_err-add_posting-clause-changes : goal.returns-in_err-add_posting-clause-changes

@@ -40,7 +40,8 @@ pub returns-clause-ok : goal.returns-clause-ok
 returns-clause-ok g c =
     let postings = c.args.gather.postings in
     let header = header_bytes c.args.def.now.mode c.args.def.now.kind in
-    let first = begin_written (g.H.Host.view c.create.new.host) c.new-writer.result c.args.file c.args.def.now.mode c.args.def.now.kind c.new-writer.ensures.file c.new-writer.ensures.end c.new-writer.ensures.none c.new-writer.ensures.blocks c.in_ok-create.ensures.ok in
-    index_made (g.H.Host.view c.end_file.new.host) c.args.file c.args.def.now.mode c.args.def.now.kind postings c.add_postings.new.writer c.add_postings.new.spill c.requires.mode c.requires.kind c.requires.gathered
-    (c.add_postings.ensures.file ∙ c.new-writer.ensures.file) c.in_ok-add_postings.ensures.keeps
+    let first = begin_written (g.H.Host.view c.create.new.host) c.new-writer.result c.args.file c.args.def.now.mode c.args.def.now.kind c.new-writer.ensures.file c.new-writer.ensures.end c.new-writer.ensures.none c.new-writer.ensures.blocks
+    c.new-writer.ensures.groups c.new-writer.ensures.table c.new-writer.ensures.common c.in_ok-create.ensures.ok in
+    index_made (g.H.Host.view c.end_file.new.host) c.args.file c.args.def.now.mode c.args.def.now.kind postings c.add_postings.new.writer c.add_postings.new.spill c.requires.kind c.requires.gathered
+    (c.add_postings.ensures.file ∙ c.new-writer.ensures.file) (c.add_postings.ensures.mode ∙ c.new-writer.ensures.mode) c.in_ok-add_postings.ensures.keeps
     (c.in_ok-end_file.ensures.ok header (gathered postings).closed (c.in_ok-add_postings.ensures.ok header first))

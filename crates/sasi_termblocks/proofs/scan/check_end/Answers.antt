@@ -13,7 +13,7 @@ returns-then-blocks-eq0-clause-read g c = reads_nothing _ _ _ _ c.requires.read.
 pub returns-in_err-check_pointer_block-clause-damaged : goal.returns-in_err-check_pointer_block-clause-damaged
 returns-in_err-check_pointer_block-clause-damaged g c =
     let p = err_from_is_err_and c.from_residual.result c.from_residual.ensures.1 in
-    rw (p.1, p.2) (behind_shown (g.H.Host.view c.args.host.now) c.args.buffered.now.file c.args.blocks c.in_err-check_pointer_block.field-0.0 (omega arith) c.in_err-check_pointer_block.ensures.damaged)
+    rw p.1 (λ form. rw p.2 (behind_shown (g.H.Host.view c.args.host.now) c.args.buffered.now.file c.args.blocks form c.in_err-check_pointer_block.field-0.0 (omega arith) c.in_err-check_pointer_block.ensures.damaged))
 
 pub returns-clause-ok : goal.returns-clause-ok
 returns-clause-ok g c bytes is some = c.in_ok-check_pointer_block.ensures.ok bytes is

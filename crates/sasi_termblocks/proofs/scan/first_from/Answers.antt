@@ -12,7 +12,7 @@ use Rattle.sasi_termblocks.proofs.scan.first_from.Goals as goal
 pub returns-then-is_too_long-clause-damaged : goal.returns-then-is_too_long-clause-damaged
 returns-then-is_too_long-clause-damaged g c =
     let v = g.H.Host.view c.args.host.now in
-    too_long_shown v c.args.buffered.now.file c.args.blocks c.unexpected_end.result (λ bytes is. (g.met.H.Host.sound c.args.host.now).fits c.args.buffered.now.file bytes is)
+    too_long_shown v c.args.buffered.now.file c.args.blocks c.args.form c.unexpected_end.result (λ bytes is. (g.met.H.Host.sound c.args.host.now).fits c.args.buffered.now.file bytes is)
     (c.is_too_long.ensures.long c.if-is_too_long.true) (subst (λ (n : FileName). DamageShown v n (TellsSize n) c.unexpected_end.result) c.file.ensures c.unexpected_end.ensures.damaged)
 
 pub returns-then-blocks-eq0-clause-ok : goal.returns-then-blocks-eq0-clause-ok
@@ -21,6 +21,9 @@ returns-then-blocks-eq0-clause-ok g c bytes entries is has = no_entries bytes c.
 pub returns-then-blocks-eq0-clause-read : goal.returns-then-blocks-eq0-clause-read
 returns-then-blocks-eq0-clause-read g c = reads_nothing _ _ _ _ c.requires.read.agrees c.requires.read.buffered
 
+pub returns-in_err-page-clause-damaged : goal.returns-in_err-page-clause-damaged
+returns-in_err-page-clause-damaged g c = let p = err_from_is_err_and c.from_residual.result c.from_residual.ensures.1 in rw (p.1, p.2) (c.in_err-page.ensures.damaged c.args.form)
+
 pub returns-in_err-position-clause-damaged : goal.returns-in_err-position-clause-damaged
 returns-in_err-position-clause-damaged g c =
     let p = err_from_is_err_and c.from_residual-in_err-position.result c.from_residual-in_err-position.ensures.1 in
@@ -28,7 +31,7 @@ returns-in_err-position-clause-damaged g c =
     let r = c.args.blocks in
     let page = c.in_ok-page.page in
     let sought = c.args.sought.now in
-    rw (p.1, p.2) (split_shown v c.args.buffered.now.file r sought page c.in_err-position.field-0.0 c.in_ok-page.ensures.low c.in_ok-page.ensures.high c.in_ok-page.ensures.led
+    rw (p.1, p.2) (split_shown v c.args.buffered.now.file r c.args.form sought page c.in_err-position.field-0.0 c.in_ok-page.ensures.low c.in_ok-page.ensures.high c.in_ok-page.ensures.led
     (shown_still (λ (n : FileName). ShowsBlock (BreaksSplit (r.first / 4096) page sought) n page) v _ c.args.buffered.now.file c.leaf_page.new.buffered.file c.in_err-position.field-0.0
     c.leaf_page.ensures.read.changes c.leaf_page.ensures.read.file c.in_err-position.ensures.damaged))
 
@@ -44,8 +47,8 @@ returns-in_err-found-clause-damaged g c =
     let v = g.H.Host.view c.args.host.now in
     let file = c.args.buffered.now.file in
     let here = c.in_ok-position.position in
-    let shows = λ (n : FileName). ShowsGiven n c.args.blocks here.page here.index c.args.sought.now in
-    rw (p.1, p.2) (found_shown v file c.args.blocks here.page here.index c.args.sought.now c.in_err-found.field-0.0
+    let shows = λ (n : FileName). ShowsGiven n c.args.blocks c.args.form here.page here.index c.args.sought.now in
+    rw (p.1, p.2) (found_shown v file c.args.blocks c.args.form here.page here.index c.args.sought.now c.in_err-found.field-0.0
     (λ bytes is. c.in_ok-position.ensures.led bytes c.args.blocks (still_reads v _ file c.leaf_page.new.buffered.file bytes c.leaf_page.ensures.read.changes c.leaf_page.ensures.read.file is) (c.in_ok-page.ensures.led bytes is))
     (shown_still shows v _ file c.leaf_page.new.buffered.file c.in_err-found.field-0.0 c.leaf_page.ensures.read.changes c.leaf_page.ensures.read.file
     (shown_still shows _ _ c.leaf_page.new.buffered.file c.position_for.new.buffered.file c.in_err-found.field-0.0 c.position_for.ensures.read.changes c.position_for.ensures.read.file c.in_err-found.ensures.damaged)))

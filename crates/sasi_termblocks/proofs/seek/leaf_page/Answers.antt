@@ -31,9 +31,9 @@ returns-in_err-page-clause-damaged g c =
     let v = g.H.Host.view c.args.host.now in
     let before = c.loop-passed.invariant in
     let some : 0 < level = omega arith in
-    rw (p.1, p.2) (pointers_shown v c.args.buffered.now.file r level page c.in_err-page.field-0.0 some (λ bytes is. before.leads bytes is some)
+    rw p.1 (λ form. rw p.2 (pointers_shown v c.args.buffered.now.file r form level page c.in_err-page.field-0.0 some (λ bytes is. before.leads bytes is some)
     (shown_still (λ (n : FileName). ShowsBlock (BreaksPointers (low_page r level) (high_page r level page)) n page) v _ c.args.buffered.now.file c.loop-passed.buffered.file c.in_err-page.field-0.0
-    before.read.changes before.read.file c.in_err-page.ensures.damaged))
+    before.read.changes before.read.file c.in_err-page.ensures.damaged)))
 
 pub returns-in_err-page-clause-read : goal.returns-in_err-page-clause-read
 returns-in_err-page-clause-read g c = reads_then _ _ _ _ _ _ _ _ _ _ _ c.loop-passed.invariant.read c.child_page.ensures.read

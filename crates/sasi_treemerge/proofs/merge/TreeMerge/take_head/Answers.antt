@@ -25,7 +25,7 @@ returns-in_err-next_of-clause-undamaged g c =
 
 pub returns-in-None-clause-merge : goal.returns-in-None-clause-merge
 returns-in-None-clause-merge g c =
-    rest_can (g.H.Host.view c.args.host.now) (g.H.Host.view c.next_of.new.host) c.args.self.now _ c.in-Some.source c.requires.merge c.next_of.ensures.read.changes c.in-Some.ensures.permutation (c.in-Some.ensures.heap_order c.requires.merge.heap).0 refl
+    rest_can (g.H.Host.view c.args.host.now) (g.H.Host.view c.next_of.new.host) c.args.self.now _ c.in-Some.source c.requires.merge c.next_of.ensures.read.changes c.in-Some.ensures.permutation (c.in-Some.ensures.heap_order c.requires.merge.heap).0 refl refl
 
 pub returns-in-None-clause-reads : goal.returns-in-None-clause-reads
 returns-in-None-clause-reads g c =
@@ -35,10 +35,10 @@ pub returns-in_ok-put-in-Some-2-clause-merge : goal.returns-in_ok-put-in-Some-2-
 returns-in_ok-put-in-Some-2-clause-merge g c =
     let v = g.H.Host.view c.args.host.now in
     let w = g.H.Host.view c.next_of.new.host in
-    let popped : TreeMerge = record { alloc = c.args.self.now.alloc; file = c.args.self.now.file; sources = c.pop.new.self; last = c.args.self.now.last; floor = c.args.self.now.floor } in
+    let popped : TreeMerge = record { alloc = c.args.self.now.alloc; file = c.args.self.now.file; sources = c.pop.new.self; pairs = c.args.self.now.pairs; last = c.args.self.now.last; floor = c.args.self.now.floor } in
     let first = first_readable v c.args.self.now c.in-Some.source _ c.requires.merge c.in-Some.ensures.permutation in
-    let rest = rest_can v w c.args.self.now popped c.in-Some.source c.requires.merge c.next_of.ensures.read.changes c.in-Some.ensures.permutation (c.in-Some.ensures.heap_order c.requires.merge.heap).0 refl in
-    can_add w w popped _ c.in-Some-2.next rest (stays w) c.in_ok-put-in-Some-2.ensures.heap c.in_ok-put-in-Some-2.ensures.put refl
+    let rest = rest_can v w c.args.self.now popped c.in-Some.source c.requires.merge c.next_of.ensures.read.changes c.in-Some.ensures.permutation (c.in-Some.ensures.heap_order c.requires.merge.heap).0 refl refl in
+    can_add w w popped _ c.in-Some-2.next rest (stays w) c.in_ok-put-in-Some-2.ensures.heap c.in_ok-put-in-Some-2.ensures.put refl refl
     (source_readable v w c.args.self.now.file c.in-Some.source.tree.value c.in_ok-next_of.field-0 c.in-Some-2.next c.next_of.ensures.read.changes c.in-Some-2.is first.named c.in_ok-next_of.ensures.named c.in_ok-next_of.ensures.buffered c.in_ok-next_of.ensures.at_head)
 
 pub returns-in_ok-put-in-Some-2-clause-reads : goal.returns-in_ok-put-in-Some-2-clause-reads
