@@ -2,7 +2,7 @@
 ghost use Rattle.sasi_indexwrite.specs.TermsSoFar.{AreUpTo};
 
 use crate::fixture::{FILE, add, lowest, put, write};
-use crate::ranges::check_all_numbers;
+use crate::ranges::{check_all_numbers, ends_of_bigints, ends_of_ints};
 use crate::searches::{bigints, check_all, edges, long_terms, numbers};
 use sasi_host::MemHost;
 use sasi_segments::{Gather, Posting};
@@ -294,8 +294,19 @@ fn large_numbers_on_both_sides_of_zero(rt: HostRuntime) {
 
 #[test]
 fn shortest_and_longest_terms(rt: HostRuntime) {
-    let host = edges(&rt, rt.alloc(), Mode::Prefix);
-    check_summary(&rt, host, 8264, 17448122307951287475);
+    let alloc = rt.alloc();
+    check_summary(
+        &rt,
+        edges(&rt, alloc, Mode::Prefix),
+        8264,
+        17448122307951287475,
+    );
+    check_summary(
+        &rt,
+        edges(&rt, alloc, Mode::Contains),
+        8264,
+        10618980512624617490,
+    );
 }
 
 /// Adds so many bigints from 0 on, each with one pair.
@@ -384,5 +395,39 @@ fn numbers_with_few_keys(rt: HostRuntime) {
         edges(&rt, alloc, Mode::Sparse),
         8280,
         7267109041768868151,
+    );
+}
+
+// The files of the least and the greatest numbers have these sizes and checksums.
+fn check_ends(
+    rt: &impl Abort,
+    alloc: Global,
+    mode: Mode,
+    size: usize,
+    int_sum: u64,
+    bigint_sum: u64,
+) {
+    check_summary(rt, ends_of_ints(rt, alloc, mode), size, int_sum);
+    check_summary(rt, ends_of_bigints(rt, alloc, mode), size, bigint_sum);
+}
+
+#[test]
+fn least_and_greatest_numbers(rt: HostRuntime) {
+    let alloc = rt.alloc();
+    check_ends(
+        &rt,
+        alloc,
+        Mode::Prefix,
+        8264,
+        12206142768018714171,
+        4145193847077666964,
+    );
+    check_ends(
+        &rt,
+        alloc,
+        Mode::Sparse,
+        8280,
+        10610923396865070735,
+        11631482169550813944,
     );
 }

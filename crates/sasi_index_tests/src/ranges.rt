@@ -70,7 +70,7 @@ fn ranges_give_their_bigints(rt: HostRuntime) {
 }
 
 /// A file of the least and the greatest int, and of those at zero.
-fn ends_of_ints(rt: &impl Abort, alloc: Global, mode: Mode) -> MemHost {
+pub fn ends_of_ints(rt: &impl Abort, alloc: Global, mode: Mode) -> MemHost {
     let rows: [Row<'_>; 4] = [
         (ListKind::Stored, &int_term(i32::MIN), 0),
         (ListKind::Stored, &int_term(-1), 1),
@@ -102,7 +102,7 @@ fn ranges_give_the_ends_of_ints(rt: HostRuntime) {
 }
 
 /// A file of the least and the greatest bigint, and of those at zero.
-fn ends_of_bigints(rt: &impl Abort, alloc: Global, mode: Mode) -> MemHost {
+pub fn ends_of_bigints(rt: &impl Abort, alloc: Global, mode: Mode) -> MemHost {
     let rows: [Row<'_>; 4] = [
         (ListKind::Stored, &bigint_term(i64::MIN), 0),
         (ListKind::Stored, &bigint_term(-1), 1),
