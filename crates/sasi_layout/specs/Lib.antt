@@ -2,6 +2,7 @@ pub mod Layout
 pub mod Moves
 pub mod NumbersInOrder
 pub mod Statements
+pub mod FileNames
 pub mod Spent
 pub mod Kept
 pub mod Shape

@@ -28,6 +28,12 @@ printed value = option_map_or value_printed value (codes "null")
 abbrev pub rows_lines : List (List (Option Value)) → List ℕ
 rows_lines rows = flat_map (λ values. line (join_by printed (codes " | ") values)) rows ++ line (codes "(" ++ decimal (length rows) ++ codes " rows)")
 
+-- ---- files
+
+-- a line for each of these texts, and a line with their number
+abbrev pub files_lines : List (List ℕ) → List ℕ
+files_lines texts = flat_map line texts ++ line (codes "(" ++ decimal (length texts) ++ codes " files)")
+
 -- ---- refusals
 
 abbrev pub refusal_line : Refusal → List ℕ

@@ -18,7 +18,7 @@ use Rattle.sasi_types.specs.declared.relation.Relation.{Relation}
 use Rattle.sasi_types.specs.declared.statement.Statement.{Statement}
 use Rattle.sasi_types.specs.declared.statement.Select.{Select}
 use Rattle.sasi_types.specs.declared.class.Class.{Class}
-use Rattle.sasi_types.specs.declared.statement.Statement.TheVariants.{CreateTable, CreateIndex, Insert, Update, Delete, Query, Flush, Trace}
+use Rattle.sasi_types.specs.declared.statement.Statement.TheVariants.{CreateTable, CreateIndex, Insert, Update, Delete, Query, Flush, Trace, ShowFiles}
 use Rattle.sasi_model.specs.Pieces.{Piece, Whole, TooLong, Unfinished}
 use Rattle.sasi_model.specs.Tokens.{same}
 use Rattle.sasi_model.specs.Parsers.{Parsed, Parses, FailsAt, Parser, grammar_parser}
@@ -49,6 +49,7 @@ is_built (Delete table columns time key value) = true
 is_built (Query select) = true
 is_built (Flush table) = true
 is_built (Trace on) = true
+is_built ShowFiles = true
 is_built statement = false
 
 -- A statement that isn't built is refused, and so is a text without a statement.
