@@ -1,3 +1,2 @@
-mod Dashes
 pub mod HostCalls
 pub mod Kept

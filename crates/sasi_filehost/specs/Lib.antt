@@ -1,4 +1,3 @@
-pub mod NameText
 pub mod OpenFiles
 pub mod RealFiles
 pub mod HostCounts

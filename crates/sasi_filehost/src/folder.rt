@@ -5,13 +5,12 @@ ghost use Rattle.sasi_host.specs.Names.{name_cmp};
 ghost use Rattle.sasi_filehost.specs.OpenFiles.{IsClosed, IsUnwritten, OpensNone};
 
 use crate::descriptors::with_descriptor;
-use crate::name_text::MAX_NAME_LENGTH;
 use crate::opening::open_folder;
 use crate::read_files::ReadFiles;
 use crate::reading::fill_at;
 use crate::written_files::WrittenFiles;
-use crate::{NameText, parse_name};
 use sasi_host::{FileName, HostFault};
+use sasi_names::{MAX_NAME_LENGTH, NameText, parse_name};
 use std::alloc::{AllocError, Global};
 use std::collections::BTreeSet;
 use std::fs::OpenOptions;

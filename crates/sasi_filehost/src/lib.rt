@@ -8,7 +8,6 @@ mod file_host;
 mod file_key;
 mod file_source;
 mod folder;
-mod name_text;
 mod opening;
 mod read_files;
 mod reading;
@@ -17,6 +16,5 @@ mod written_files;
 
 pub use file_host::FileHost;
 pub use file_source::FileSource;
-pub use name_text::{NameText, parse_name};
 pub use opening::open_folder;
 pub use reading::fill_at;

@@ -5,7 +5,7 @@ use Rattle.std.specs.Option.{option_map_or}
 use Rattle.sasi_types.specs.declared.column.ColumnType.{ColumnType}
 use Rattle.sasi_types.specs.declared.statement.Select.{Select}
 use Rattle.sasi_types.specs.declared.statement.Statement.{Statement}
-use Rattle.sasi_types.specs.declared.statement.Statement.TheVariants.{CreateTable, CreateIndex, Flush, Query, Trace}
+use Rattle.sasi_types.specs.declared.statement.Statement.TheVariants.{CreateTable, CreateIndex, Flush, Query, ShowFiles, Trace}
 use Rattle.sasi_cells.specs.declared.mutation.Mutation.{Mutation}
 use Rattle.sasi_cells.specs.Mutations.{state_with_mutation}
 use Rattle.sasi_schema.specs.Defined.{definition}
@@ -31,7 +31,7 @@ use Rattle.sasi_machine.specs.StatementSteps.{StatementStepsTo}
 use Rattle.sasi_machine.specs.Writes.{IsWrite, IsWriting}
 use Rattle.sasi_machine.specs.declared.outcome.Outcome.{Outcome}
 use Rattle.sasi_machine.specs.declared.prepared.Prepared.{Prepared}
-use Rattle.sasi_machine.specs.declared.prepared.Prepared.TheVariants.{Answered, Create, Define, Write as Writes, Flush as Flushes, Select as Selects, Trace as Traces}
+use Rattle.sasi_machine.specs.declared.prepared.Prepared.TheVariants.{Answered, Create, Define, Write as Writes, Flush as Flushes, Select as Selects, Trace as Traces, Files as ListsFiles}
 use Rattle.sasi_machine.specs.declared.prepared.Selection.{Selection}
 
 -- what is known of a state with this schema and this largest timestamp
@@ -118,7 +118,12 @@ abbrev pub TurnsTrace : State → Statement → Bool → Type 0
 TurnsTrace s (Trace on) asked = (refusal s (Trace on) ≡ None) × (on ≡ asked)
 TurnsTrace s statement asked = ⊥
 
--- what a statement prepares, with its reply appended; that of a SELECT is still to come
+-- the statement is SHOW FILES, which is never refused
+abbrev pub AsksFiles : State → Statement → Type 0
+AsksFiles s ShowFiles = refusal s ShowFiles ≡ None
+AsksFiles s statement = ⊥
+
+-- what a statement prepares, with its reply appended; that of a SELECT is still to come, and so are the lines of files
 abbrev pub StatementPrepares : State → Statement → List ℕ → List ℕ → Prepared → Type 0
 StatementPrepares s statement reply_old reply_new (Answered outcome) = StatementStepsTo s statement s reply_old reply_new outcome × IsSome (refusal s statement)
 StatementPrepares s statement reply_old reply_new (Create t) = StatementStepsTo s statement (with_new_table s (definition t)) reply_old reply_new (outcome_of None) × CreatesTable s statement t
@@ -127,6 +132,7 @@ StatementPrepares s statement reply_old reply_new (Writes w) = StatementStepsTo 
 StatementPrepares s statement reply_old reply_new (Flushes table) = StatementStepsTo s statement s reply_old reply_new (outcome_of None) × FlushesTable s statement table
 StatementPrepares s statement reply_old reply_new (Selects rows) = (reply_new ≡ reply_old) × SelectsRows s statement rows
 StatementPrepares s statement reply_old reply_new (Traces on) = StatementStepsTo s statement s reply_old reply_new (outcome_of None) × TurnsTrace s statement on
+StatementPrepares s statement reply_old reply_new ListsFiles = StatementStepsTo s statement s reply_old reply_new (outcome_of None) × AsksFiles s statement
 
 -- what is asked of the tables
 abbrev pub asked_by : Prepared → Asked
@@ -137,13 +143,14 @@ asked_by (Writes w) = ask.Writes w.table w.key w.change
 asked_by (Flushes table) = ask.Flushes table
 asked_by (Selects rows) = ask.NoChange
 asked_by (Traces on) = ask.NoChange
+asked_by ListsFiles = ask.NoChange
 
 -- what a statement prepares, by what is known of the state
 pub record IsPrepared (known : Known) (statement : Statement) (reply_old reply_new : List ℕ) (prepared : Prepared) : Type 0 where
   pub asked_is : parsed_asks known (Says statement) ≡ asked_by prepared
   pub of_state : (s : State) → IsStateOf known s → StatementPrepares s statement reply_old reply_new prepared
 
--- a new table, a new index, a flush, rows and TRACE don't depend on the time
+-- a new table, a new index, a flush, rows, TRACE and files don't depend on the time
 abbrev pub IsTimeless : Prepared → Type 0
 IsTimeless (Answered outcome) = ⊥
 IsTimeless (Create t) = ⊤
@@ -152,6 +159,7 @@ IsTimeless (Writes w) = ⊥
 IsTimeless (Flushes table) = ⊤
 IsTimeless (Selects rows) = ⊤
 IsTimeless (Traces on) = ⊤
+IsTimeless ListsFiles = ⊤
 
 -- the same, where what doesn't depend on the time is prepared whatever the largest timestamp
 pub record IsPreparedFor (known : Known) (statement : Statement) (reply_old reply_new : List ℕ) (prepared : Prepared) : Type 0 where
@@ -167,6 +175,7 @@ CanBeDone s (Writes w) = IsApplicable s w
 CanBeDone s (Flushes table) = HasTable s table
 CanBeDone s (Selects rows) = ⊤
 CanBeDone s (Traces on) = ⊤
+CanBeDone s ListsFiles = ⊤
 
 -- the statement is built, and isn't a SELECT
 abbrev pub IsChanging : Statement → Type 0
@@ -179,6 +188,16 @@ IsChanging statement = is_built statement ≡ true
 abbrev pub IsSelect : Prepared → Type 0
 IsSelect (Selects rows) = ⊤
 IsSelect prepared = ⊥
+
+-- the lines of files are to be printed
+abbrev pub IsListing : Prepared → Type 0
+IsListing ListsFiles = ⊤
+IsListing prepared = ⊥
+
+-- the piece is SHOW FILES
+abbrev pub IsShowFiles : ParsedPiece → Type 0
+IsShowFiles (Says ShowFiles) = ⊤
+IsShowFiles parsed = ⊥
 
 -- the piece is a SELECT
 abbrev pub IsQuery : ParsedPiece → Type 0
@@ -199,7 +218,7 @@ pub record StepsTo (s : State) (piece : Piece) (state : State) (reply : List ℕ
 abbrev pub SaysOne : Piece → (Statement → Type 0) → Type 0
 SaysOne piece P = (statement : Statement) × (read piece ≡ Says statement) × IsWellFormed statement × P statement
 
--- what a piece prepares; the rows of a SELECT are still to come
+-- what a piece prepares; the rows of a SELECT are still to come, and so are the lines of files
 abbrev pub Prepares : State → Piece → List ℕ → Prepared → Type 0
 Prepares s piece reply (Answered outcome) = StepsTo s piece s reply outcome × IsRefusedOrEmpty s piece
 Prepares s piece reply (Create t) = StepsTo s piece (with_new_table s (definition t)) reply (outcome_of None) × SaysOne piece (λ statement. CreatesTable s statement t) × IsNewTable s t
@@ -208,3 +227,4 @@ Prepares s piece reply (Writes w) = StepsTo s piece (state_with_mutation s w) re
 Prepares s piece reply (Flushes table) = StepsTo s piece s reply (outcome_of None) × SaysOne piece (λ statement. FlushesTable s statement table) × HasTable s table
 Prepares s piece reply (Selects rows) = StepsTo s piece s (answer_rows s rows) (outcome_of None) × (reply ≡ []) × HasRows s rows × SaysOne piece (λ statement. SelectsRows s statement rows)
 Prepares s piece reply (Traces on) = StepsTo s piece s reply (outcome_of None) × SaysOne piece (λ statement. TurnsTrace s statement on)
+Prepares s piece reply ListsFiles = StepsTo s piece s reply (outcome_of None) × (reply ≡ []) × SaysOne piece (AsksFiles s)

@@ -15,7 +15,8 @@ pub fn is_built(statement: &Statement) -> bool
         | Statement::Delete { .. }
         | Statement::Query { .. }
         | Statement::Flush { .. }
-        | Statement::Trace { .. } => true,
+        | Statement::Trace { .. }
+        | Statement::ShowFiles => true,
         Statement::CreateIndex { stepped, .. } => !*stepped,
         _ => false,
     }

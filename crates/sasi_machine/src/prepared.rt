@@ -21,6 +21,8 @@ pub enum Prepared {
     Select(Selection),
     /// TRACE to be turned on or off.
     Trace(bool),
+    /// The lines of the files, which are to be printed behind the reply so far.
+    Files,
 }
 
 /// A SELECT that isn't refused, and the number of its table.

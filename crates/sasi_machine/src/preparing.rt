@@ -1,6 +1,6 @@
 // The preparing of pieces, before anything changes.
-ghost use Rattle.std.specs.Prelude.{◌≡◌, ◌≤◌, ℕ, true, map, IfErr, IfOk};
-ghost use Rattle.sasi_types.specs.declared.statement.Statement.TheVariants.{CreateTable, Flush, Trace};
+ghost use Rattle.std.specs.Prelude.{◌≡◌, ◌≤◌, ℕ, List, true, map, IfErr, IfOk};
+ghost use Rattle.sasi_types.specs.declared.statement.Statement.TheVariants.{CreateTable, Flush, ShowFiles, Trace};
 ghost use Rattle.sasi_model.specs.Abbreviations.{TIME_LIMIT as time_limit};
 ghost use Rattle.sasi_model.specs.Asked.{asks};
 ghost use Rattle.sasi_model.specs.Pieces.{piece_of};
@@ -9,7 +9,7 @@ ghost use Rattle.sasi_model.specs.Refusals.{Known, is_built, read as parsed};
 ghost use Rattle.sasi_model.specs.State.{State};
 ghost use Rattle.sasi_model.specs.WellFormed.{IsWellFormed};
 ghost use Rattle.sasi_machine.specs.Classes.{OnMissing, TablesLack};
-ghost use Rattle.sasi_machine.specs.Prepares.{CanBeDone, IsChanging, IsPrepared, IsPreparedFor, IsQuery, IsSelect, IsStateOf, IsTimeless, Prepares, asked_by, known_by};
+ghost use Rattle.sasi_machine.specs.Prepares.{CanBeDone, IsChanging, IsPrepared, IsListing, IsPreparedFor, IsQuery, IsSelect, IsShowFiles, IsStateOf, IsTimeless, Prepares, asked_by, known_by};
 ghost use Rattle.sasi_machine.specs.Writes.{IsWriting};
 
 use crate::builder::MutationBuilder;
@@ -44,6 +44,7 @@ pub fn prepare(
     // What doesn't depend on the time is prepared for each state with these definitions.
     ensures timeless { IfOk result (λ prepared. IsTimeless prepared → (s : State) → definitions s.tables ≡ schema.now.definitions → Prepares s (piece_of end piece.now) reply.new prepared) }
     ensures selects { IfOk result (λ prepared. IsSelect prepared → IsQuery (parsed (piece_of end piece.now))) }
+    ensures lists { IfOk result (λ prepared. IsListing prepared → IsShowFiles (parsed (piece_of end piece.now))) }
     // A class is missing only where an index needs it.
     ensures missing { IfErr result (OnMissing (TablesLack (map (λ b. kind (b.vtable, b.value)) kit.old.objects.items) schema.now.definitions)) }
     ensures kinds { map (λ b. kind (b.vtable, b.value)) kit.new.objects.items ≡ map (λ b. kind (b.vtable, b.value)) kit.old.objects.items }
@@ -142,6 +143,7 @@ fn prepare_other(
         ),
         Statement::Flush { table } => prepare_flush(schema, table, reply),
         Statement::Trace { on } => prepare_trace(on, reply),
+        Statement::ShowFiles => Ok(prepare_files()),
         write => prepare_mutation(builder, schema, write, reply),
     }
 }
@@ -204,6 +206,13 @@ fn prepare_trace(on: bool, reply: &mut Reply) -> Result<Prepared, AllocError>
 {
     ok(reply)?;
     Ok(Prepared::Trace(on))
+}
+
+// SHOW FILES is never refused.
+fn prepare_files() -> Prepared
+    ensures { (known : Known) (reply : List ℕ) → IsPrepared known ShowFiles reply reply result }
+{
+    Prepared::Files
 }
 
 // An INSERT, an UPDATE or a DELETE.

@@ -1,5 +1,5 @@
 // The line that the program prints of a status.
-use sasi_filehost::NameText;
+use sasi_names::NameText;
 use sasi_host::{Damage, Seen};
 use sasi_run::{NumberKind, Status};
 use sasi_types::{Class, Partitioner};

@@ -4,9 +4,9 @@ use Rattle.std.specs.Fmt.{decimal}
 use Rattle.sasi_host.specs.CallLaws.{some_same}
 use Rattle.sasi_host.specs.declared.name.Kind.{Kind}
 use Rattle.sasi_host.specs.declared.name.FileName.{FileName}
-use Rattle.sasi_filehost.specs.NameText.{word_of, HasNumbers, name_text}
-use Rattle.sasi_filehost.proofs.Dashes.{IsThree, text_is, two_numbers, three_numbers, behind_three, behind_one, number_split, word_read, three_read, three_some, one_some, same_name}
-use Rattle.sasi_filehost.proofs.name_text.parse_name.Goals as goal
+use Rattle.sasi_names.specs.NameText.{word_of, HasNumbers, name_text}
+use Rattle.sasi_names.proofs.Dashes.{IsThree, text_is, two_numbers, three_numbers, behind_three, behind_one, number_split, word_read, three_read, three_some, one_some, same_name}
+use Rattle.sasi_names.proofs.name_text.parse_name.Goals as goal
 
 three_shown : (name : FileName) (text word numbers number parts index part : List ℕ) → IsThree name.kind
     → text ≡ word ++ (45 ∷ numbers) → numbers ≡ number ++ (45 ∷ parts) → parts ≡ index ++ (45 ∷ part)

@@ -1,13 +1,13 @@
 // The names of files in a folder.
 ghost use Rattle.std.specs.Prelude.{◌≡◌, ℕ, ◌<◌, ◌^◌, Some, IfSome};
 ghost use Rattle.std.specs.Fmt.{decimal};
-ghost use Rattle.sasi_filehost.specs.NameText.{word_of, HasNumbers, Fits, name_text};
+ghost use Rattle.sasi_names.specs.NameText.{word_of, HasNumbers, Fits, name_text};
 
 use sasi_host::{FileName, Kind};
 use std::fmt;
 
 /// How many bytes the longest name has.
-pub(crate) const MAX_NAME_LENGTH: usize = 40;
+pub const MAX_NAME_LENGTH: usize = 40;
 
 /// A file name, printed as in the folder.
 #[derive(Clone, Copy, Debug)]

@@ -11,7 +11,7 @@ use Rattle.sasi_host.specs.CallLaws.{some_same}
 use Rattle.sasi_host.specs.declared.name.Kind.{Kind}
 use Rattle.sasi_host.specs.declared.name.Kind.TheVariants.{Manifest, Seal, Log, Data, Index, Segment}
 use Rattle.sasi_host.specs.declared.name.FileName.{FileName}
-use Rattle.sasi_filehost.specs.NameText.{word_of, dashed, numbers_of, HasNumbers, Fits, name_text}
+use Rattle.sasi_names.specs.NameText.{word_of, dashed, numbers_of, HasNumbers, Fits, name_text}
 
 -- a kind whose names have three numbers
 abbrev pub IsThree : Kind → Type 0
