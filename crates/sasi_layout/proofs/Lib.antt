@@ -28,3 +28,4 @@ pub mod Parts
 pub mod TimeLaws
 pub mod Fewer
 pub mod Orders
+mod ToldOrder
