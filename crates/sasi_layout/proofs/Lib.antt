@@ -28,4 +28,3 @@ pub mod Parts
 pub mod TimeLaws
 pub mod Fewer
 pub mod Orders
-mod ToldOrder

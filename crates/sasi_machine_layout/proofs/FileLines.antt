@@ -1,5 +1,5 @@
 -- The names of the files of a layout in memory, and their lines.
-use Rattle.std.proofs.Common.{◌≡◌, ℕ, List, [], ◌∷◌, ◌++◌, length, map, refl, sym, ap, ◌∙◌}
+use Rattle.std.proofs.Common.{◌≡◌, ℕ, List, [], ◌∷◌, ◌++◌, length, map, Result, Ok, Err, OnOk, refl, sym, ap, ◌∙◌}
 use Rattle.std.specs.List.{flat_map}
 use Rattle.std.proofs.lemmas.List.{append_assoc, length-map}
 use Rattle.sasi_host.specs.declared.name.FileName.{FileName}
@@ -17,7 +17,7 @@ use Rattle.sasi_machine_layout.specs.Contents.{AreHeld, IsContents, file_of, lay
 -- ---- which files there are
 
 -- what a table lists
-abbrev listed_in : TableContents → List ListedFile
+abbrev pub listed_in : TableContents → List ListedFile
 listed_in t = map (λ (f : FileContents). f.listed) t.files.items
 
 same_files : (files : List FileContents) → map (λ (f : File). f.listed) (map file_of files) ≡ map (λ (f : FileContents). f.listed) files
@@ -37,9 +37,12 @@ names_are c is = ap names_listed (sym (same_tables c.schema.definitions c.schema
 
 -- ---- their lines
 
--- a line for each name, and the line with their number
-pub lines_are : (text : FileName → List ℕ) (names : List FileName) (n : ℕ) (front lines all : List ℕ) → n ≡ length names → lines ≡ front ++ flat_map line (map text names) → all ≡ lines ++ file_count_line n → all ≡ front ++ files_lines (map text names)
-lines_are text names n front lines all counted printed added =
+-- a line for each name, and a line with their number
+pub lines_told : {T E : Type 0} (text : FileName → List ℕ) (names told : List FileName) (n : ℕ) (front lines all : List ℕ) (result : Result T E) → names ≡ told → n ≡ length names
+    → lines ≡ front ++ flat_map line (map text names) → OnOk result (all ≡ lines ++ file_count_line n) → OnOk result (all ≡ front ++ files_lines (map text told))
+lines_told text names told n front lines all (Ok t) same counted printed added =
     added ∙ ap (λ (l : List ℕ). l ++ file_count_line n) printed
     ∙ append_assoc front (flat_map line (map text names)) (file_count_line n)
     ∙ ap (λ (k : ℕ). front ++ (flat_map line (map text names) ++ file_count_line k)) (counted ∙ sym (length-map names text))
+    ∙ ap (λ (l : List FileName). front ++ files_lines (map text l)) same
+lines_told text names told n front lines all (Err e) same counted printed added = tt

@@ -10,7 +10,7 @@ ghost use Rattle.sasi_machine_layout.specs.Contents.{IsContents, layout_of};
 
 use crate::contents::{Contents, FileContents, TableContents};
 use sasi_host::FileName;
-use sasi_layout::{push_file, sort_names};
+use sasi_listing::{push_file, sort_names};
 use sasi_machine::Reply;
 use sasi_print::{FileState, file_count, file_line};
 use std::alloc::AllocError;

@@ -8,7 +8,7 @@ ghost use Rattle.sasi_recover.specs.OpeningReads.{data_count, ends_reads, index_
 ghost use Rattle.sasi_recover.specs.SealedFolder.{AreListedFiles};
 
 use sasi_host::{DataNumber, FileName};
-use sasi_layout::push_tables;
+use sasi_listing::push_tables;
 use sasi_manifest::{ListedFile, ListedTable, Listing, PartNumber};
 use std::alloc::{AllocError, Global};
 

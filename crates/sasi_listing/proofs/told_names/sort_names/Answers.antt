@@ -3,8 +3,8 @@ use Rattle.std.specs.Ordering.{is_lt}
 use Rattle.std.proofs.lemmas.Fn.{always_returns_same}
 use Rattle.std.proofs.lemmas.List.Sorted.{ranks_by}
 use Rattle.sasi_layout.specs.FileNames.{told_cmp}
-use Rattle.sasi_layout.proofs.ToldOrder.{told_sorted, told_total}
-use Rattle.sasi_layout.proofs.told_names.sort_names.Goals as goal
+use Rattle.sasi_listing.proofs.ToldOrder.{told_sorted, told_total}
+use Rattle.sasi_listing.proofs.told_names.sort_names.Goals as goal
 
 pub returns : goal.returns
 returns c =

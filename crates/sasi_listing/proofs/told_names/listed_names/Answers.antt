@@ -5,8 +5,8 @@ use Rattle.sasi_manifest.specs.FileNames.{file_names}
 use Rattle.sasi_manifest.specs.ListedDefinition.{ListedDefinition}
 use Rattle.sasi_manifest.specs.ListedTables.{listed}
 use Rattle.sasi_layout.specs.FileNames.{told_cmp}
-use Rattle.sasi_layout.proofs.ToldOrder.{names_of_tables}
-use Rattle.sasi_layout.proofs.told_names.listed_names.Goals as goal
+use Rattle.sasi_listing.proofs.ToldOrder.{names_of_tables}
+use Rattle.sasi_listing.proofs.told_names.listed_names.Goals as goal
 
 pub returns : goal.returns
 returns c =
