@@ -1,1 +1,2 @@
+pub mod Agreement
 mod Seen

@@ -22,13 +22,15 @@ pub struct Cursors<C> {
 impl<C> Model for Cursors<C> {
     ghost use Rattle.std.specs.Prelude.{List, ℕ, map};
     ghost use Rattle.std.specs.Coded.{coded×, coded_list, coded_ℕ};
-    ghost use Rattle.sasi_cursors.specs.Cursors.{entry_of};
+    ghost use Rattle.sasi_cursors.specs.Cursors.{entry_of, IsOnce};
 
     ghost Value = { List (List ℕ × C) };
 
     ghost coded = { coded_list (coded× (coded_list coded_ℕ) C.code) };
 
     ghost view = { λ c. map entry_of c.by_name.entries };
+
+    ghost invariant = { λ c. IsOnce (map entry_of c.by_name.entries) };
 }
 
 // The bytes of a name, for the map to own.
@@ -60,7 +62,8 @@ impl<C> Cursors<C> {
 
     /// Whether a cursor of the name is open.
     pub fn has(&self, name: &Name) -> bool
-        ensures { result ≡ is_open name.now self.now }
+        ensures found { result ≡ is_open name.now self.now }
+        ensures once { IsOnce self.now }
     {
         self.by_name.contains_key(name.bytes())
     }
@@ -82,7 +85,7 @@ impl<C> Cursors<C> {
         ensures opened { OnOk result (self.new ≡ self.old ++ (name.now, cursor) ∷ []) }
         ensures unchanged { OnErr result (self.new ≡ self.old) }
         ensures given_back { IfErr result (λ error. error.value ≡ cursor) }
-        ensures once { OnOk result (IsOnce self.new) }
+        ensures once { IsOnce self.old }
     {
         let Ok(bytes) = copied(name, *self.by_name.allocator()) else {
             return Err(AllocFailed { value: cursor });
@@ -99,7 +102,7 @@ impl<C> Cursors<C> {
     pub fn remove(&mut self, name: &Name) -> Option<C>
         ensures closed { result ≡ cursor_of name.now self.old }
         ensures rest { self.new ≡ without name.now self.old }
-        ensures once { IsOnce self.new }
+        ensures once { IsOnce self.old }
     {
         self.by_name.shift_remove(name.bytes())
     }
@@ -108,6 +111,7 @@ impl<C> Cursors<C> {
     pub fn values(&self) -> Values<'_, Vec<u8>, C>
         ensures rest { result ≡ values_of self.now }
         ensures runs { ShowsInOrder (deref {X = C}) }
+        ensures once { IsOnce self.now }
     {
         self.by_name.values()
     }
@@ -116,6 +120,7 @@ impl<C> Cursors<C> {
     pub fn into_values(self) -> IntoValues<Vec<u8>, C>
         ensures rest { result ≡ values_of self }
         ensures runs { GivesInOrder C }
+        ensures once { IsOnce self }
     {
         self.by_name.into_values()
     }

@@ -1,9 +1,12 @@
 use borrow.Follows.Closed.{read_of}
-use Rattle.std.proofs.Common.{◌∙◌, ap, map, sym}
+use Rattle.std.proofs.Common.{◌∙◌, ap, map, subst, sym}
 use Rattle.std.specs.Option.{ghost_name_of}
-use Rattle.sasi_cursors.specs.Cursors.{entry_of}
+use Rattle.sasi_cursors.specs.Cursors.{entry_of, IsOnce}
 use Rattle.sasi_cursors.proofs.Seen.{lookup_seen, once_seen, set_seen}
 use Rattle.sasi_cursors.proofs.cursors.Cursors.get_mut.Goals as goal
+
+pub invariant_of-self-lent : goal.invariant_of-self-lent
+invariant_of-self-lent g c = λ _. (λ w. once_seen _ (c.get_mut.follows.holds w).4, subst (λ m. IsOnce (map entry_of m.entries)) (sym c.get_mut.follows.holds-at-none) c.self.invariant)
 
 pub returns : goal.returns
 returns g c =

@@ -10,5 +10,5 @@ returns-in-Ok-insert-clause-opened g c =
     (ap (map entry_of) c.in-Ok-insert.ensures.entries
     ∙ inserted_seen entries c.in-Ok.bytes c.args.cursor (rw (c.in-Ok.ensures, c.self.view_is) c.requires))
 
-pub returns-in-Ok-insert-clause-once : goal.returns-in-Ok-insert-clause-once
-returns-in-Ok-insert-clause-once g c = once_seen c.insert.new.self.entries c.insert.ensures.unique
+pub invariant_of-self : goal.invariant_of-self
+invariant_of-self g c = once_seen c.insert.new.self.entries c.insert.ensures.unique

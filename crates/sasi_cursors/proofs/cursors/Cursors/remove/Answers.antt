@@ -9,5 +9,5 @@ returns-clause-closed g c = rw (← c.self.view_is, ← c.bytes.ensures) (c.shif
 pub returns-clause-rest : goal.returns-clause-rest
 returns-clause-rest g c = rw (← c.self.view_is, ← c.bytes.ensures) (ap (map entry_of) c.shift_remove.ensures.entries ∙ removed_seen c.bytes.result.now c.self.inside.by_name.entries)
 
-pub returns-clause-once : goal.returns-clause-once
-returns-clause-once g c = once_seen c.shift_remove.new.self.entries c.shift_remove.ensures.unique
+pub invariant_of-self : goal.invariant_of-self
+invariant_of-self g c = once_seen c.shift_remove.new.self.entries c.shift_remove.ensures.unique
