@@ -1,5 +1,6 @@
 -- Where the open cursors agree with another list, they do so after each call. For callers, whose session is defined over a list of its own.
-use Rattle.std.proofs.Common.{◌≡◌, ℕ, suc, Bool, true, false, cond, ◌++◌, List, [], ◌∷◌, map, length, not, Option, None, Some, find, refl, sym, ap, subst, ◌∙◌}
+use Rattle.std.proofs.Common.{◌≡◌, ℕ, Bool, true, false, cond, ◌++◌, List, [], ◌∷◌, map, length, not, Option, None, Some, find, refl, sym, ap, subst, ◌∙◌}
+use Rattle.std.proofs.lemmas.Slice.Zip.{AllZip-long, all_zipped_more}
 use Rattle.std.specs.Cmp.Lexicographic.{bytes_decides}
 use Rattle.std.specs.List.{AllByRecursion, IsDistinct}
 use Rattle.std.specs.Map.{keys_of}
@@ -18,10 +19,7 @@ module _ {C D : Type 0} (name_of : D → List ℕ) (R : C → D → Type 0) wher
 
   -- as many are open
   pub agree_length : (entries : List (List ℕ × C)) (cursors : List D) → Agrees name_of R entries cursors → length entries ≡ length cursors
-  agree_length [] [] a = refl
-  agree_length [] (d ∷ ds) a = absurd a
-  agree_length (e ∷ es) [] a = absurd a
-  agree_length (e ∷ es) (d ∷ ds) a = ap (λ n. suc n) (agree_length es ds a.1)
+  agree_length entries cursors a = sym (AllZip-long (λ entry cursor. (entry.0 ≡ name_of cursor) × R entry.1 cursor) entries cursors a)
 
   -- another relation that holds wherever the first does
   pub agree_still : (S : C → D → Type 0) → ((c : C) (d : D) → R c d → S c d) → (entries : List (List ℕ × C)) (cursors : List D)
@@ -34,10 +32,8 @@ module _ {C D : Type 0} (name_of : D → List ℕ) (R : C → D → Type 0) wher
   -- a cursor that is opened last in both
   pub agree_opened : (name : List ℕ) (c : C) (d : D) → name ≡ name_of d → R c d → (entries : List (List ℕ × C)) (cursors : List D)
       → Agrees name_of R entries cursors → Agrees name_of R (entries ++ (name, c) ∷ []) (cursors ++ d ∷ [])
-  agree_opened name c d named met [] [] a = ((named, met), tt)
-  agree_opened name c d named met [] (x ∷ xs) a = absurd a
-  agree_opened name c d named met (e ∷ es) [] a = absurd a
-  agree_opened name c d named met (e ∷ es) (x ∷ xs) a = (a.0, agree_opened name c d named met es xs a.1)
+  agree_opened name c d named met entries cursors a =
+      all_zipped_more (λ entry cursor. (entry.0 ≡ name_of cursor) × R entry.1 cursor) entries cursors (name, c) d a (named, met)
 
   module _ (name : List ℕ) where
     -- the cursor of the name is found in both, and the two meet the relation

@@ -1,9 +1,11 @@
 // The open cursors by their names.
 ghost use Rattle.std.specs.Prelude.{◌≡◌, ◌++◌, false, [], ◌∷◌, length, IfErr, IfOk, OnErr, OnOk};
 ghost use Rattle.std.specs.Borrow.{sem};
-ghost use Rattle.std.specs.Map.{values_of};
+ghost use Rattle.std.specs.Map.{lookup, remove_entry, values_of};
 ghost use Rattle.std.specs.Map.Iter.{GivesInOrder, ShowsInOrder, deref};
 ghost use Rattle.std.specs.Option.{option_copied_mut};
+ghost use Rattle.indexmap.specs.IndexMap.{IsUnique};
+ghost use Rattle.sasi_types.specs.Key.{key_eq};
 ghost use Rattle.sasi_cursors.specs.Cursors.{cursor_of, is_open, without, IsOnce};
 
 use indexmap::IndexMap;
@@ -38,6 +40,15 @@ fn copied(name: &Name, alloc: Global) -> Result<Vec<u8>, AllocError>
     ensures { IfOk result (λ bytes. bytes.items ≡ name.now) }
 {
     Ok(name.bytes().to_vec(alloc)?)
+}
+
+// Takes a cursor out of the map, and leaves the others in their order.
+fn take_out<C>(by_name: &mut IndexMap<Vec<u8>, C>, name: &Name) -> Option<C>
+    ensures taken { result ≡ lookup (λ key. key_eq name.now key.items) by_name.old.entries }
+    ensures others { by_name.new.entries ≡ remove_entry (λ key. key_eq name.now key.items) by_name.old.entries }
+    ensures unique { IsUnique (λ x y. key_eq x.items y.items) by_name.new }
+{
+    by_name.shift_remove(name.bytes())
 }
 
 impl<C> Cursors<C> {
@@ -104,7 +115,7 @@ impl<C> Cursors<C> {
         ensures rest { self.new ≡ without name.now self.old }
         ensures once { IsOnce self.old }
     {
-        self.by_name.shift_remove(name.bytes())
+        take_out(&mut self.by_name, name)
     }
 
     /// The cursors in the order of opening.
