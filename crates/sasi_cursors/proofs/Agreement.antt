@@ -36,8 +36,8 @@ module _ {C D : Type 0} (name_of : D → List ℕ) (R : C → D → Type 0) wher
       all_zipped_more (λ entry cursor. (entry.0 ≡ name_of cursor) × R entry.1 cursor) entries cursors (name, c) d a (named, met)
 
   module _ (name : List ℕ) where
-    -- the cursor of the name is found in both, and the two meet the relation
-    pub agree_found : (entries : List (List ℕ × C)) (cursors : List D) → Agrees name_of R entries cursors
+    -- a cursor of the name is found in both, and the two meet the relation, or in neither
+    agree_found : (entries : List (List ℕ × C)) (cursors : List D) → Agrees name_of R entries cursors
         → MatchOption (cursor_of name entries) (find (has_name name_of name) cursors ≡ None)
         (λ c. (d : D) × (find (has_name name_of name) cursors ≡ Some d) × R c d)
     agree_found [] [] a = refl
@@ -54,6 +54,18 @@ module _ {C D : Type 0} (name_of : D → List ℕ) (R : C → D → Type 0) wher
             (λ c. (x : D) × (find (has_name name_of name) ds ≡ Some x) × R c x) → Found b b
         by true _ = (d, refl, a.0.1)
         by false rest = rest
+
+    -- the cursor that a call gave or lent is that of the other list with the name
+    pub agree_some : (entries : List (List ℕ × C)) (cursors : List D) (c : C) → Some c ≡ cursor_of name entries → Agrees name_of R entries cursors
+        → (d : D) × (find (has_name name_of name) cursors ≡ Some d) × R c d
+    agree_some entries cursors c is a = subst (λ o. MatchOption o (find (has_name name_of name) cursors ≡ None)
+        (λ x. (d : D) × (find (has_name name_of name) cursors ≡ Some d) × R x d)) (sym is) (agree_found entries cursors a)
+
+    -- where a call found none, the other list has none of the name
+    pub agree_none : (entries : List (List ℕ × C)) (cursors : List D) → None ≡ cursor_of name entries → Agrees name_of R entries cursors
+        → find (has_name name_of name) cursors ≡ None
+    agree_none entries cursors is a = subst (λ o. MatchOption o (find (has_name name_of name) cursors ≡ None)
+        (λ x. (d : D) × (find (has_name name_of name) cursors ≡ Some d) × R x d)) (sym is) (agree_found entries cursors a)
 
     -- where no cursor has the name, none is changed
     changed_none : (change : D → D) (cursors : List D) → AllByRecursion (λ n. key_eq name n ≡ false) (map name_of cursors) → changed name_of name change cursors ≡ cursors

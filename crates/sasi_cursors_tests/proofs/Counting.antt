@@ -1,7 +1,7 @@
 -- What the numbers tell of the session's cursors.
-use Rattle.std.proofs.Common.{◌≡◌, ℕ, ◌-◌, min, List, [], drop, length, take, None, Some, find, refl, sym, ap, subst, ◌∙◌, arith, length-drop, length-take}
-use Rattle.std.specs.Option.{MatchOption, option_map_or}
-use Rattle.sasi_cursors.proofs.Agreement.{agree_changed, agree_found}
+use Rattle.std.proofs.Common.{◌≡◌, ℕ, ◌-◌, min, List, [], drop, length, take, Some, find, refl, sym, ap, ◌∙◌, arith, length-drop, length-take}
+use Rattle.std.specs.Option.{option_map_or}
+use Rattle.sasi_cursors.proofs.Agreement.{agree_changed, agree_some}
 use Rattle.sasi_cursors.specs.Agreement.{has_name}
 use Rattle.sasi_cursors.specs.Cursors.{cursor_of, with_cursor, IsOnce}
 use Rattle.sasi_cursors_tests.specs.Counts.{given_on, rows_left, Counts, Session}
@@ -9,9 +9,7 @@ use Rattle.sasi_cursors_tests.specs.Counts.{given_on, rows_left, Counts, Session
 module _ (name : List ℕ) (counts : List (List ℕ × ℕ)) (session : Session) (agrees : Counts counts session) (left : ℕ) (is : Some left ≡ cursor_of name counts) where
   -- the session's cursor of the name has as many rows left as the number says
   found : (d : List ℕ × List ℕ) × (find (has_name (λ cursor. cursor.0) name) session ≡ Some d) × (left ≡ length d.1)
-  found = subst (λ o. MatchOption o (find (has_name (λ cursor. cursor.0) name) session ≡ None)
-      (λ c. (d : List ℕ × List ℕ) × (find (has_name (λ cursor. cursor.0) name) session ≡ Some d) × (c ≡ length d.1))) (sym is)
-      (agree_found (λ cursor. cursor.0) (λ c cursor. c ≡ length cursor.1) name counts session agrees)
+  found = agree_some (λ cursor. cursor.0) (λ c cursor. c ≡ length cursor.1) name counts session left is agrees
 
   -- the least of both numbers are given
   pub rows_given : (count : ℕ) → min count left ≡ length (take count (rows_left name session))
