@@ -1,5 +1,5 @@
 -- The files that a store lists stay while it changes others, and stay listed.
-use Rattle.std.proofs.Common.{◌≡◌, ◌≢◌, ◌⊎◌, ◌||◌, ◌<◌, ◌+◌, ◌++◌, ℕ, zero, suc, Bool, true, false, cond, nat_eq, nat_le, List, [], ◌∷◌, refl, sym, ap, subst, ◌∙◌, inl, inr, arith}
+use Rattle.std.proofs.Common.{◌≡◌, ◌≢◌, ◌⊎◌, ◌||◌, ◌<◌, ◌-◌, ◌++◌, ℕ, zero, suc, Bool, true, false, cond, nat_eq, nat_le, List, [], ◌∷◌, refl, sym, ap, subst, ◌∙◌, inl, inr, arith}
 use Rattle.std.specs.Prelude.{Contains, slice_get}
 use Rattle.std.specs.List.{list_any}
 use Rattle.std.specs.Option.{option_map_or}
@@ -16,6 +16,7 @@ use Rattle.sasi_layout.specs.Serving.{CanChange, StoreInMemory}
 use Rattle.sasi_manifest.specs.declared.files.ListedFile.{ListedFile}
 use Rattle.sasi_manifest.specs.declared.files.PartNumber.{PartNumber}
 use Rattle.sasi_manifest.specs.declared.listing.Listing.{Listing}
+use Rattle.sasi_manifest.specs.FileNames.{has_name}
 use Rattle.sasi_manifest.specs.ListedDefinition.{ListedDefinition}
 use Rattle.sasi_manifest.specs.ListedFiles.{is_name_of, with_file}
 use Rattle.sasi_manifest.specs.Listings.{at_number, listed_with_index, replaced}
@@ -64,12 +65,12 @@ put_among f [] g has = absurd (none_in has)
 put_among f (h ∷ hs) g has =
     elim (nat_le f.number h.number) as (λ b. Contains (cond b (f ∷ h ∷ hs) (h ∷ with_file f hs)) g) [
       | true ↦ Contains-append_right (f ∷ []) (h ∷ hs) g has
-      | false ↦ by (Contains-append_cases (h ∷ []) hs g has)
+      | false ↦ by (put_among f hs g) (Contains-append_cases (h ∷ []) hs g has)
     ]
   where
-    by : Contains (h ∷ []) g ⊎ Contains hs g → Contains (h ∷ with_file f hs) g
-    by (inl own) = Contains-append_left (h ∷ []) (with_file f hs) g own
-    by (inr more) = Contains-append_right (h ∷ []) (with_file f hs) g (put_among f hs g more)
+    by : (Contains hs g → Contains (with_file f hs) g) → Contains (h ∷ []) g ⊎ Contains hs g → Contains (h ∷ with_file f hs) g
+    by rest (inl own) = Contains-append_left (h ∷ []) (with_file f hs) g own
+    by rest (inr more) = Contains-append_right (h ∷ []) (with_file f hs) g (rest more)
 
 -- ---- what is listed after an edit
 
@@ -93,12 +94,12 @@ keeps_flushed file since number old new is table f has =
 -- one of the files, by its name
 named_file : (name : FileName) (fs : List ListedFile) → have_name fs name ≡ true → (f : ListedFile) × Contains fs f × (is_name_of f name ≡ true)
 named_file name [] is = cc
-named_file name (f ∷ fs) is = by (is_name_of f name) refl
+named_file name (f ∷ fs) is = by (is_name_of f name) refl (named_file name fs)
   where
-    by : (b : Bool) → is_name_of f name ≡ b → (g : ListedFile) × Contains (f ∷ fs) g × (is_name_of g name ≡ true)
-    by true own = (f, (0, omega arith, refl), own)
-    by false other =
-        let rest = named_file name fs (ap (λ b. b || have_name fs name) (sym other) ∙ is) in
+    by : (b : Bool) → is_name_of f name ≡ b → (have_name fs name ≡ true → (g : ListedFile) × Contains fs g × (is_name_of g name ≡ true)) → (g : ListedFile) × Contains (f ∷ fs) g × (is_name_of g name ≡ true)
+    by true own more = (f, (0, omega arith, refl), own)
+    by false other more =
+        let rest = more (ap (λ b. b || have_name fs name) (sym other) ∙ is) in
         (rest.0, Contains-append_right (f ∷ []) fs rest.0 rest.1, rest.2)
 
 or_true : (a : Bool) {b : Bool} → b ≡ true → (a || b) ≡ true
@@ -113,12 +114,12 @@ file_named name (g ∷ gs) f (suc k, lt, same) own = or_true (is_name_of g name)
 -- the position of its table
 table_named : (name : FileName) (ts : List ListedDefinition) → list_any (λ t. have_name t.files name) ts ≡ true → (at : ℕ) × (have_name (files_at ts at) name ≡ true)
 table_named name [] is = cc
-table_named name (t ∷ ts) is = by (have_name t.files name) refl
+table_named name (t ∷ ts) is = by (have_name t.files name) refl (table_named name ts)
   where
-    by : (b : Bool) → have_name t.files name ≡ b → (at : ℕ) × (have_name (files_at (t ∷ ts) at) name ≡ true)
-    by true own = (0, own)
-    by false other =
-        let rest = table_named name ts (ap (λ b. b || list_any (λ t. have_name t.files name) ts) (sym other) ∙ is) in
+    by : (b : Bool) → have_name t.files name ≡ b → (list_any (λ t. have_name t.files name) ts ≡ true → (at : ℕ) × (have_name (files_at ts at) name ≡ true)) → (at : ℕ) × (have_name (files_at (t ∷ ts) at) name ≡ true)
+    by true own more = (0, own)
+    by false other more =
+        let rest = more (ap (λ b. b || list_any (λ t. have_name t.files name) ts) (sym other) ∙ is) in
         (suc rest.0, rest.1)
 
 named_table : (name : FileName) (ts : List ListedDefinition) (at : ℕ) → have_name (files_at ts at) name ≡ true → list_any (λ t. have_name t.files name) ts ≡ true
@@ -126,12 +127,20 @@ named_table name [] at is = cc
 named_table name (t ∷ ts) zero is = ap (λ b. b || list_any (λ t. have_name t.files name) ts) is
 named_table name (t ∷ ts) (suc at) is = or_true (have_name t.files name) (named_table name ts at is)
 
+-- the table at a position has the number after it
+number_at : (at : ℕ) → suc at - 1 ≡ at
+number_at at = omega arith
+
+files_kept : (old new : Listing) → KeepsFilesOf old new → (at : ℕ) → AreAmong (files_at old.tables at) (files_at new.tables at)
+files_kept old new keeps at f has =
+    subst (λ (n : ℕ). Contains (files_at new.tables n) f) (number_at at) (keeps (suc at) f (subst (λ (n : ℕ). Contains (files_at old.tables n) f) (sym (number_at at)) has))
+
 -- **Files that stay listed keep their names.**
 names_kept : (old new : Listing) → KeepsFilesOf old new → (name : FileName) → IsListedName old.tables name → IsListedName new.tables name
 names_kept old new keeps name listed =
     let found = table_named name old.tables (sym (has_name_by name old.tables) ∙ listed) in
     let file = named_file name (files_at old.tables found.0) found.1 in
-    has_name_by name new.tables ∙ named_table name new.tables found.0 (file_named name (files_at new.tables found.0) file.0 (keeps (suc found.0) file.0 file.1) file.2)
+    has_name_by name new.tables ∙ named_table name new.tables found.0 (file_named name (files_at new.tables found.0) file.0 (files_kept old new keeps found.0 file.0 file.1) file.2)
 
 -- ---- changes of the folder
 
