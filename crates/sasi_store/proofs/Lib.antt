@@ -27,6 +27,7 @@ pub mod Creating
 pub mod Defining
 pub mod ListedSchema
 pub mod FlushingTables
+pub mod ListedFrames
 pub mod Composition
 pub mod SessionLaws
 pub mod Stepping

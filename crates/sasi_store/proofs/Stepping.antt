@@ -51,6 +51,7 @@ use Rattle.sasi_store.specs.Steps.{StepPromises}
 use Rattle.sasi_store.specs.Worlds.{ServesWorld, World, piece_checks, rows_tail, selection_checks, steps}
 use Rattle.sasi_store.specs.declared.fault.StepFault.{StepFault}
 use Rattle.sasi_store.specs.declared.fault.StepFault.TheVariants as fault
+use Rattle.sasi_store.proofs.ListedFrames.{same_stays}
 use Rattle.sasi_store.proofs.MoveCauses.{any_change, none_made}
 use Rattle.sasi_store.proofs.SessionLaws.{LeavesSession, plain_reply, refused_leaves, selected_turns, traced_turns}
 
@@ -140,6 +141,8 @@ module _ {T : Type 0} (kinds : List Class) (a b : View) (old new : StoreInMemory
     unread = λ other. makes.reads;
     reads = λ w serves short. omega (arith, makes.reads);
     changes = makes.changes;
+    files_stay = makes.files_stay;
+    listed_stay = makes.listed_stay;
     causes = record { disk = makes.causes.disk; out = makes.causes.out; ok = makes.causes.ok; failed = tt; others = tt };
   }
 
@@ -161,6 +164,8 @@ module _ {T : Type 0} (kinds : List Class) (a b : View) (old new : StoreInMemory
     unread = λ other. makes.reads;
     reads = λ w serves short. omega (arith, makes.reads);
     changes = makes.changes;
+    files_stay = makes.files_stay;
+    listed_stay = tt;
     causes = record { disk = makes.causes.disk; out = makes.causes.out; ok = tt; failed = makes.causes.failed; others = makes.causes.others };
   }
 
@@ -188,6 +193,8 @@ step_not_made kinds v sound old piece reply e other unspent undamaged missing = 
   unread = λ other. refl;
   reads = λ w serves short. omega arith;
   changes = any_change Same v v (stays v);
+  files_stay = same_stays old.manifest.listing v v (stays v);
+  listed_stay = tt;
   causes = none_made v (Err e) (λ f is same. (let one : e ≡ f = cc in other (one_then one same)));
 }
   where
@@ -243,6 +250,8 @@ step_still kinds v sound old piece reply outcome ready is steps_to turns = recor
   unread = λ other. refl;
   reads = λ w serves short. omega arith;
   changes = any_change Same v v (stays v);
+  files_stay = same_stays old.manifest.listing v v (stays v);
+  listed_stay = λ table f has. has;
   causes = none_made v (Ok outcome) (λ e same. cc);
 }
 
@@ -399,6 +408,8 @@ module _ {was : Bool} (kinds : List Class) (a b : View) (sound : IsSound a) (old
     unread = λ other. absurd (other query);
     reads = costs;
     changes = any_change Same a b change;
+    files_stay = same_stays old.manifest.listing a b change;
+    listed_stay = λ table f has. has;
     causes = record { disk = causes.disk; out = causes.out; ok = causes.ok; failed = tt; others = tt };
   }
 
@@ -421,6 +432,8 @@ module _ {was : Bool} (kinds : List Class) (a b : View) (sound : IsSound a) (old
     unread = λ other. absurd (other query);
     reads = costs;
     changes = any_change Same a b change;
+    files_stay = same_stays old.manifest.listing a b change;
+    listed_stay = tt;
     causes = record { disk = causes.disk; out = causes.out; ok = tt; failed = causes.failed; others = causes.others };
   }
 
