@@ -30,6 +30,9 @@ pub mod FlushingTables
 pub mod Composition
 pub mod SessionLaws
 pub mod Stepping
+pub mod NoFile
+pub mod ToldFiles
+pub mod StepFiles
 pub mod FloorLaws
 pub mod FlushingParts
 pub mod FlushPrepared
