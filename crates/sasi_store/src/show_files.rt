@@ -27,11 +27,7 @@ pub fn show_files(parts: &Parts, views: &ViewBook, reply: &mut Reply) -> Result<
 }
 
 // Prints the lines of these files, and their number.
-fn print_files(
-    names: &[FileName],
-    views: &ViewBook,
-    reply: &mut Reply,
-) -> Result<(), AllocError>
+fn print_files(names: &[FileName], views: &ViewBook, reply: &mut Reply) -> Result<(), AllocError>
     requires none_out { HasNoneOut views.now }
     ensures { OnOk result (reply.new ≡ reply.old ++ files_lines (current_texts names.now)) }
 {
@@ -40,11 +36,7 @@ fn print_files(
 }
 
 // Prints the line of each file.
-fn print_lines(
-    names: &[FileName],
-    views: &ViewBook,
-    reply: &mut Reply,
-) -> Result<(), AllocError>
+fn print_lines(names: &[FileName], views: &ViewBook, reply: &mut Reply) -> Result<(), AllocError>
     requires none_out { HasNoneOut views.now }
     ensures { OnOk result (reply.new ≡ reply.old ++ flat_map line (current_texts names.now)) }
 {
