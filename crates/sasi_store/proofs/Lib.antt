@@ -31,6 +31,9 @@ pub mod ListedFrames
 pub mod Composition
 pub mod SessionLaws
 pub mod Stepping
+pub mod NoFile
+pub mod ToldFiles
+pub mod StepFiles
 pub mod FloorLaws
 pub mod FlushingParts
 pub mod FlushPrepared
