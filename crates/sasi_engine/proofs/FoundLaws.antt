@@ -30,6 +30,7 @@ use Rattle.sasi_layout.specs.Layout.{TableParts}
 use Rattle.sasi_candidates.specs.LayoutParts.{part_of_map}
 use Rattle.sasi_candidates.specs.Parts.{Part}
 use Rattle.sasi_candidates.proofs.Hits.{memory_found}
+use Rattle.sasi_recheck.proofs.GrowthLaws.{found_before}
 use Rattle.sasi_engine.specs.declared.relation.IndexedRelation.{IndexedRelation}
 use Rattle.sasi_engine.specs.Asked.{Asked, is_hit, keys_of}
 use Rattle.sasi_engine.specs.Views.{IsAsked, IsMapOf}
@@ -141,8 +142,17 @@ terms_there : (rule : Option Rule) (column : ℕ) (found : Option Partition) (pa
 terms_there rule column found part is = ap (λ (o : Option Partition). terms_of_cell rule (option_and_then (λ (p : Partition). map_.get p.cells column) o)) is
 
 module _ (t : TableParts) (part : MapPart) (table_part : Part) (is_map : IsMapOf t part table_part) (r : IndexedRelation) (a : Asked) (is_asked : IsAsked t r a) where
+  own : HasFound part.map.partitions t.definition a.index r.index is_map.own
+  own = index_found part.map.partitions t.definition a.index r.index t.numbers t.definition.indexes is_map.own is_map.subjects_are is_map.kept is_asked.numbered
+
+  -- it comes before the later indexes
   has : HasFound part.map.partitions t.definition a.index r.index part.indexes
-  has = index_found part.map.partitions t.definition a.index r.index t.numbers t.definition.indexes part.indexes is_map.subjects_are is_map.kept is_asked.numbered
+  has = record {
+    index = own.index;
+    there = ap (lookup (λ n. nat_eq n r.index)) is_map.indexes_are ∙ found_before (λ n. nat_eq n r.index) is_map.own is_map.later own.index own.there;
+    subject_is = own.subject_is;
+    kept = own.kept;
+  }
 
   -- the map has the index that the relation names
   pub index_there : HasIndexFor part r

@@ -1,5 +1,5 @@
 -- A view of a table: what its parts, and the relations of a WHERE, are in the layout.
-use Rattle.std.specs.Prelude.{◌≡◌, ℕ, ◌≤◌, List, [], ◌∷◌, length, map, Option, None, Some}
+use Rattle.std.specs.Prelude.{◌≡◌, ℕ, ◌≤◌, List, [], ◌∷◌, ◌++◌, length, map, Option, None, Some}
 use Rattle.std.specs.FinMap as map_
 use Rattle.std.specs.List.{zip}
 use Rattle.sasi_types.specs.declared.column.ColumnType.{ColumnType}
@@ -12,6 +12,7 @@ use Rattle.sasi_model.specs.Indexes.{index_on}
 use Rattle.sasi_model.specs.State.{Index}
 use Rattle.sasi_memindex.specs.declared.map_part.MapPart.{MapPart}
 use Rattle.sasi_memindex.specs.Book.{AreKept, Book, subjects}
+use Rattle.sasi_memindex.specs.MemIndexView.{Numbered}
 use Rattle.sasi_datawrite.specs.Format.{decorated_key}
 use Rattle.sasi_layout.specs.Flushed.{contents_of}
 use Rattle.sasi_layout.specs.Layout.{File, TableParts}
@@ -56,11 +57,14 @@ pub record IsFileOf (folder : Folder) (partitioner : Partitioner) (t : TablePart
 abbrev pub subjects_of : TableParts → List (ℕ × (ℕ × (ColumnType × Option Rule)))
 subjects_of t = zip t.numbers (map (λ (index : Index). (index.column, (kind_of t.definition index.column, index.rule))) t.definition.indexes)
 
--- the map has the table's indexes, each with the terms of the cells that are current in the map
+-- the map has the table's indexes, each with the terms of the cells that are current in the map, and perhaps later ones behind them
 pub record IsMapOf (t : TableParts) (m : MapPart) (part : Part) : Type 0 where
   pub part_is : part ≡ part_of_map m.map.partitions
-  pub subjects_are : subjects m.indexes ≡ subjects_of t
-  pub kept : AreKept m.map.partitions m.indexes
+  pub own : Numbered
+  pub later : Numbered
+  pub indexes_are : m.indexes ≡ own ++ later
+  pub subjects_are : subjects own ≡ subjects_of t
+  pub kept : AreKept m.map.partitions own
 
 abbrev pub IsMapIn : TableParts → Option MapPart → Part → Type 0
 IsMapIn t None part = ⊥

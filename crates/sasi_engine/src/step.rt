@@ -1,8 +1,10 @@
 // Steps of the candidates that hits give.
-ghost use Rattle.std.specs.Prelude.{◌≡◌, ◌+◌, ◌++◌, ◌≤◌, ℕ, List, [], None, IfOk, OnOk, drop};
+ghost use Rattle.std.specs.Prelude.{◌≡◌, ◌+◌, ◌++◌, ◌≤◌, ℕ, List, [], None, Option, IfOk, OnOk, drop};
 ghost use Rattle.sasi_types.specs.declared.column.ColumnType.{ColumnType};
 ghost use Rattle.sasi_types.specs.declared.partitioner.Partitioner.{Partitioner};
 ghost use Rattle.sasi_types.specs.Token.{token_of};
+ghost use Rattle.sasi_host.specs.declared.damage.Damage.{Damage};
+ghost use Rattle.sasi_host.specs.Names.{Folder};
 ghost use Rattle.sasi_datawrite.specs.Format.{Content};
 ghost use Rattle.sasi_ranges.specs.StreamCalls.{CanStream, HasStreamed, Spends, StreamFaults};
 ghost use Rattle.sasi_scan.specs.Finding.{file_maps, found_in};
@@ -68,6 +70,7 @@ fn turn<S: TokenStream, H: Host, P: PageReader>(
     ensures read { HasStreamed (P.agrees pages.new) (P.covers pages.old) (P.covers pages.new) (SourceOpens (S.opens hits.old) hand.old) (SourceOpens (S.opens hits.new) hand.new) (H.view host.old) (H.view host.new) }
     ensures faults { StreamFaults (SourceShows (S.shows hits.old (H.view host.old).files) hand.old (H.view host.old).files) (SourceShows (S.shows hits.new (H.view host.new).files) hand.new (H.view host.new).files)
         (SourceLeaves (S.leaves hits.old (H.view host.old).files) ahead.old hand.old (H.view host.old).files maps.now) (H.view host.old) (H.view host.new) result }
+    ensures hits_show_less { (files : Option Folder) (damage : Damage) → S.shows hits.new files damage → S.shows hits.old files damage }
 {
     let _ = &maps;
     let entries = next_token(hand.alloc, host, pages, hits, ahead)?;
@@ -139,6 +142,7 @@ fn step<S: TokenStream, H: Host, P: PageReader>(
     ensures read { HasStreamed (P.agrees pages.new) (P.covers pages.old) (P.covers pages.new) (SourceOpens (S.opens hits.old) hand.old) (SourceOpens (S.opens hits.new) hand.new) (H.view host.old) (H.view host.new) }
     ensures faults { StreamFaults (SourceShows (S.shows hits.old (H.view host.old).files) hand.old (H.view host.old).files) (SourceShows (S.shows hits.new (H.view host.new).files) hand.new (H.view host.new).files)
         (SourceLeaves (S.leaves hits.old (H.view host.old).files) ahead.old hand.old (H.view host.old).files maps.now) (H.view host.old) (H.view host.new) result }
+    ensures hits_show_less { (files : Option Folder) (damage : Damage) → S.shows hits.new files damage → S.shows hits.old files damage }
 {
     if hand.keys.as_slice().is_empty() {
         return turn(host, pages, maps, hits, ahead, hand);
@@ -172,6 +176,7 @@ pub(crate) fn next_candidate<S: TokenStream, H: Host, P: PageReader>(
     ensures read { HasStreamed (P.agrees pages.new) (P.covers pages.old) (P.covers pages.new) (SourceOpens (S.opens hits.old) hand.old) (SourceOpens (S.opens hits.new) hand.new) (H.view host.old) (H.view host.new) }
     ensures faults { StreamFaults (SourceShows (S.shows hits.old (H.view host.old).files) hand.old (H.view host.old).files) (SourceShows (S.shows hits.new (H.view host.new).files) hand.new (H.view host.new).files)
         (SourceLeaves (S.leaves hits.old (H.view host.old).files) ahead.old hand.old (H.view host.old).files maps.now) (H.view host.old) (H.view host.new) result }
+    ensures hits_show_less { (files : Option Folder) (damage : Damage) → S.shows hits.new files damage → S.shows hits.old files damage }
 {
     for _turn in 0..u64::MAX {
         match step(host, pages, maps, hits, ahead, hand)? {

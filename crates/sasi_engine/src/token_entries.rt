@@ -1,5 +1,7 @@
 // The entries of one token.
-ghost use Rattle.std.specs.Prelude.{◌≡◌, ◌++◌, ◌∷◌, [], ℕ, List, IfOk, OnOk};
+ghost use Rattle.std.specs.Prelude.{◌≡◌, ◌++◌, ◌∷◌, [], ℕ, List, Option, IfOk, OnOk};
+ghost use Rattle.sasi_host.specs.declared.damage.Damage.{Damage};
+ghost use Rattle.sasi_host.specs.Names.{Folder};
 ghost use Rattle.sasi_ranges.specs.declared.entry.Entry.{Entry as SpecEntry};
 ghost use Rattle.sasi_ranges.specs.StreamCalls.{CanStream, HasStreamed, Spends, StreamFaults};
 ghost use Rattle.sasi_engine.specs.TokenTurns.{GivesAfter, TakesNext, TakesToken};
@@ -33,6 +35,7 @@ pub(crate) fn take_token<S: TokenStream, H: Host, P: PageReader>(
     ensures ready { OnOk result (S.ready hits.new (H.view host.new).files) }
     ensures read { HasStreamed (P.agrees pages.new) (P.covers pages.old) (P.covers pages.new) (S.opens hits.old) (S.opens hits.new) (H.view host.old) (H.view host.new) }
     ensures faults { StreamFaults (S.shows hits.old (H.view host.old).files) (S.shows hits.new (H.view host.new).files) (S.leaves hits.old (H.view host.old).files) (H.view host.old) (H.view host.new) result }
+    ensures shows_less { (files : Option Folder) (damage : Damage) → S.shows hits.new files damage → S.shows hits.old files damage }
 {
     for _turn in 0..u64::MAX {
         let Some(entry) = hits.next(host, pages)? else {
@@ -61,6 +64,7 @@ fn first_left<S: TokenStream, H: Host, P: PageReader>(
     ensures ready { OnOk result (S.ready hits.new (H.view host.new).files) }
     ensures read { HasStreamed (P.agrees pages.new) (P.covers pages.old) (P.covers pages.new) (S.opens hits.old) (S.opens hits.new) (H.view host.old) (H.view host.new) }
     ensures faults { StreamFaults (S.shows hits.old (H.view host.old).files) (S.shows hits.new (H.view host.new).files) (S.leaves hits.old (H.view host.old).files) (H.view host.old) (H.view host.new) result }
+    ensures shows_less { (files : Option Folder) (damage : Damage) → S.shows hits.new files damage → S.shows hits.old files damage }
 {
     match ahead {
         Some(entry) => Ok(Some(entry)),
@@ -83,6 +87,7 @@ pub(crate) fn next_token<S: TokenStream, H: Host, P: PageReader>(
     ensures ready { OnOk result (S.ready hits.new (H.view host.new).files) }
     ensures read { HasStreamed (P.agrees pages.new) (P.covers pages.old) (P.covers pages.new) (S.opens hits.old) (S.opens hits.new) (H.view host.old) (H.view host.new) }
     ensures faults { StreamFaults (S.shows hits.old (H.view host.old).files) (S.shows hits.new (H.view host.new).files) (S.leaves hits.old (H.view host.old).files) (H.view host.old) (H.view host.new) result }
+    ensures shows_less { (files : Option Folder) (damage : Damage) → S.shows hits.new files damage → S.shows hits.old files damage }
 {
     let mut entries = Vec::new(alloc);
     let before = ahead.take();

@@ -1,14 +1,15 @@
 -- For callers: what is known of a look-up stays while its files read as before.
-use Rattle.std.proofs.Common.{◌≡◌, List, [], ◌∷◌, Option, None, Some, refl, inl, inr}
+use Rattle.std.proofs.Common.{◌≡◌, List, [], ◌∷◌, map, Option, None, Some, refl, subst, inl, inr, ⊎_elim}
 use Rattle.sasi_types.specs.declared.column.ColumnType.{ColumnType}
 use Rattle.sasi_types.specs.declared.partitioner.Partitioner.{Partitioner}
 use Rattle.sasi_host.specs.declared.name.FileName.{FileName}
+use Rattle.sasi_host.specs.declared.damage.Damage.{Damage}
 use Rattle.sasi_host.specs.Names.{Folder}
 use Rattle.sasi_host.specs.View.{contents_in}
 use Rattle.sasi_datawrite.specs.Format.{Content}
 use Rattle.sasi_dataread.specs.Opened.{OpenDataFile}
-use Rattle.sasi_lookup.specs.Files.{IsFileReady, LookedFile}
-use Rattle.sasi_lookup.specs.Lookups.{AreDataOf, FilesOpen, FilesReady, IsLookingIn, IsReady, LookupView, Opens}
+use Rattle.sasi_lookup.specs.Files.{FileShows, IsFileReady, LookedFile}
+use Rattle.sasi_lookup.specs.Lookups.{AreDataOf, FilesOpen, FilesReady, FilesShow, IsLookingIn, IsOfSameFiles, IsReady, LookupView, Opens, Shows}
 use Rattle.sasi_lookup.proofs.FileLaws.{data_stays, open_with_stays}
 
 module _ (old new : Option Folder) where
@@ -39,3 +40,18 @@ module _ (old new : Option Folder) where
   pub lookup_keeps : (lookup : LookupView) → ((name : FileName) → Opens lookup name → IsSame name)
       → (IsReady lookup old → IsReady lookup new) × ((p : Partitioner) (contents : List Content) → IsLookingIn old p contents lookup → IsLookingIn new p contents lookup)
   lookup_keeps lookup same = (ready_stays lookup.types lookup.files same, λ p contents. looking_stays p lookup.types lookup.files contents same)
+
+names_show : (types : List ColumnType) (seen : Option Folder) (old new : List LookedFile) (damage : Damage) → map (λ (file : LookedFile). file.name) new ≡ map (λ (file : LookedFile). file.name) old → FilesShow types seen new damage
+    → FilesShow types seen old damage
+names_show types seen [] [] damage same shows = shows
+names_show types seen [] (n ∷ new) damage same shows = cc
+names_show types seen (o ∷ old) [] damage same shows = absurd shows
+names_show types seen (o ∷ old) (n ∷ new) damage same shows =
+    let name : n.name ≡ o.name = cc in
+    let rest : map (λ (file : LookedFile). file.name) new ≡ map (λ (file : LookedFile). file.name) old = cc in
+    ⊎_elim (λ here. inl (subst (λ (k : FileName). FileShows types k seen damage) name here)) (λ later. inr (names_show types seen old new damage rest later)) shows
+
+-- **Whatever the folder is, a look-up in the same files is shown the same corruption.**
+pub same_shows : (old new : LookupView) → IsOfSameFiles old new → (seen : Option Folder) (damage : Damage) → Shows new seen damage → Shows old seen damage
+same_shows old new same seen damage shows =
+    names_show old.types seen old.files new.files damage same.names_are (subst (λ (types : List ColumnType). FilesShow types seen new.files damage) same.types_are shows)

@@ -1,10 +1,12 @@
 -- What is known of a plan that is pending is known of the source that it makes.
 use Rattle.std.proofs.Common.{◌≡◌, ℕ, true, List, Option, None, Some, refl, sym, subst}
+use Rattle.std.specs.FinMap.{get}
 use Rattle.sasi_types.specs.declared.column.ColumnType.{ColumnType}
 use Rattle.sasi_host.specs.declared.name.FileName.{FileName}
 use Rattle.sasi_host.specs.Names.{Folder}
 use Rattle.sasi_memindex.specs.Book.{Book}
 use Rattle.sasi_views.specs.declared.part.Part as view
+use Rattle.sasi_recheck.proofs.GrowthLaws.{grown_not}
 use Rattle.sasi_recheck.specs.Optional.{SourceOr}
 use Rattle.sasi_engine.specs.HitCandidates.{PlanWorld}
 use Rattle.sasi_engine.specs.Plans.{is_file_of}
@@ -24,7 +26,7 @@ module _ (source : PlanSource) (types : List ColumnType) (listed : List view.Par
   since_begun w origin is = record {
     there = λ some. refl;
     files_are = λ name opened. is.seen.files_are name (subst (λ (vs : List view.Part). is_file_of vs name ≡ true) (sym is.listed_are) (opens name opened));
-    maps_are = λ number used. refl;
+    maps_are = λ number used. grown_not (get book number);
   }
 
 -- ---- begun or not

@@ -1,5 +1,6 @@
 -- A new reader has the rows of the answer before it, and pays what its plan may take; each call gives the next row and keeps that promise.
 use Rattle.std.proofs.Common.{◌≡◌, ℕ, ◌+◌, ◌≤◌, Bool, List, [], ◌∷◌, map, take, drop, sum, Option, None, Some, Result, Ok, Err, IfOk, OnOk, refl, sym, ap, subst, ◌∙◌, arith}
+use Rattle.std.specs.FinMap.{get}
 use Rattle.std.specs.List.{sum_by}
 use Rattle.sasi_types.specs.declared.column.ColumnType.{ColumnType}
 use Rattle.sasi_types.specs.declared.decorated_key.DecoratedKey.{DecoratedKey}
@@ -23,6 +24,7 @@ use Rattle.sasi_candidates.specs.Parts.{maps_of}
 use Rattle.sasi_candidates.proofs.Answers.{answer_is_checked}
 use Rattle.sasi_candidates.proofs.GroupLaws.{groups_have}
 use Rattle.sasi_views.specs.declared.part.Part as view
+use Rattle.sasi_recheck.proofs.GrowthLaws.{grown_not}
 use Rattle.sasi_recheck.specs.Rows.{GivesAllowed, RecheckView, allowed_after, asked_in, counted_on, looked_in}
 use Rattle.sasi_recheck.specs.Sources.{Candidate}
 use Rattle.sasi_engine.specs.declared.relation.IndexedRelation.{IndexedRelation}
@@ -100,7 +102,7 @@ module _ (w : PlanWorld) (plan : PlanView) (listed : List view.Part) (book : Boo
     listed_are = is.listed_are;
     types_are = is.types_are;
     made = is.made;
-    seen = record { files_are = λ name told. refl; maps_are = λ number used. refl };
+    seen = record { files_are = λ name told. refl; maps_are = λ number used. grown_not (get book number) };
   }
 
   -- what holds by the conditions of the world holds by those of the plan

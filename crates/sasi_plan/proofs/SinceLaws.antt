@@ -1,5 +1,6 @@
 -- What a call says of a source of which something was known at an earlier moment.
 use Rattle.std.proofs.Common.{ℕ, List, [], Option, None, Some, Result, Ok, Err, IfOk, refl}
+use Rattle.std.specs.FinMap.{get}
 use Rattle.sasi_host.specs.declared.damage.Damage.{Damage}
 use Rattle.sasi_host.specs.declared.fault.ReadFault.{ReadFault}
 use Rattle.sasi_host.specs.declared.fault.ReadFault.TheVariants as fault
@@ -10,12 +11,13 @@ use Rattle.sasi_memindex.specs.Book.{Book}
 use Rattle.sasi_model.specs.Cells.{Partition}
 use Rattle.sasi_ranges.specs.StreamCalls.{Spends, StreamFaults}
 use Rattle.sasi_ranges.proofs.Calling.{fails_nothing, faults_as, faults_memory}
+use Rattle.sasi_recheck.proofs.GrowthLaws.{grown_not}
 use Rattle.sasi_recheck.specs.Sources.{Candidate, GivesFirst}
 use Rattle.sasi_plan.specs.Begun.{Since}
 
 -- what is so now is so since now
 pub since_now : (Opens : FileName → Type 0) (Uses : ℕ → Type 0) (P : Option Folder → Book → Type 0) (files : Option Folder) (book : Book) → P files book → Since Opens Uses P files book
-since_now Opens Uses P files book is = (files, book, record { there = λ some. some; files_are = λ name opens. refl; maps_are = λ number uses. refl }, is)
+since_now Opens Uses P files book is = (files, book, record { there = λ some. some; files_are = λ name opens. refl; maps_are = λ number uses. grown_not (get book number) }, is)
 
 -- what follows of what is left
 pub gives_as : (P Q : List Candidate → Type 0) (left : List Candidate) (r : Result (Option (List ℕ × Partition)) ReadFault) → ((rest : List Candidate) → P rest → Q rest) → IfOk r (GivesFirst P left) → IfOk r (GivesFirst Q left)

@@ -1,5 +1,5 @@
 -- The parts of a view: what its data files and its map have, and what is looked at for them.
-use Rattle.std.proofs.Common.{◌≡◌, ℕ, ◌≤◌, ◌==◌, true, false, List, [], ◌∷◌, ◌++◌, length, map, Option, None, Some, refl, sym, ap, ap₂, subst, ◌∙◌, arith, inl, inr, rules}
+use Rattle.std.proofs.Common.{◌≡◌, ℕ, ◌≤◌, ◌==◌, true, false, List, [], ◌∷◌, ◌++◌, length, map, Option, None, Some, refl, sym, ap, ap₂, subst, ◌∙◌, arith, append_assoc, inl, inr, rules}
 use Rattle.std.proofs.lemmas.List.{map-append}
 use Rattle.std.specs.FinMap as map_
 use Rattle.std.specs.List.{AllByRecursion}
@@ -11,7 +11,8 @@ use Rattle.sasi_host.specs.Names.{Folder, data_name}
 use Rattle.sasi_host.specs.View.{contents_in}
 use Rattle.sasi_cells.specs.Maps.{merged}
 use Rattle.sasi_model.specs.Abbreviations.{Partitions}
-use Rattle.sasi_memindex.specs.Book.{Book}
+use Rattle.sasi_memindex.specs.Book.{AreKept, Book}
+use Rattle.sasi_memindex.specs.MemIndexView.{Numbered}
 use Rattle.sasi_memindex.specs.declared.map_part.MapPart.{MapPart}
 use Rattle.sasi_memtable.specs.MemtableView.{MemtableView}
 use Rattle.sasi_machine.specs.TableRows.{AreStored}
@@ -20,11 +21,13 @@ use Rattle.sasi_datawrite.specs.Format.{Content}
 use Rattle.sasi_layout.specs.Layout.{TableParts}
 use Rattle.sasi_scan.specs.Parts.{AreContents, merged_parts}
 use Rattle.sasi_scan.proofs.KeyLookups.{parts_are}
+use Rattle.sasi_recheck.specs.Growth.{IsGrown}
 use Rattle.sasi_sources.specs.KeyCandidates.{HasKeyType, IsListed}
 use Rattle.sasi_sources.specs.Maps.{IsMap, maps_in}
 use Rattle.sasi_views.specs.declared.part.Part as view
 use Rattle.sasi_views.specs.declared.part.Part.TheVariants as view_part
 use Rattle.sasi_candidates.specs.Costs.{files_of}
+use Rattle.sasi_candidates.specs.LayoutParts.{part_of_map}
 use Rattle.sasi_candidates.specs.Parts.{Part, maps_of}
 use Rattle.sasi_engine.specs.declared.relation.IndexedRelation.{IndexedRelation}
 use Rattle.sasi_engine.specs.Asked.{Asked, asked_of}
@@ -97,18 +100,31 @@ first_typed types book listed kind has = record { first = has.first; stored = fi
 
 -- ---- another book
 
+map_stays : (t : TableParts) (was now : Option MapPart) (part : Part) → IsGrown was now → IsMapIn t was part → IsMapIn t now part
+map_stays t None None part grown is = is
+map_stays t None (Some now) part grown is = absurd grown
+map_stays t (Some was) None part grown is = absurd grown
+map_stays t (Some was) (Some now) part grown is = record {
+  part_is = is.part_is ∙ ap (λ (m : MemtableView). part_of_map m.partitions) (sym grown.same);
+  own = is.own;
+  later = is.later ++ grown.added;
+  indexes_are = grown.indexes_are ∙ ap (λ (indexes : Numbered). indexes ++ grown.added) is.indexes_are ∙ append_assoc is.own is.later grown.added;
+  subjects_are = is.subjects_are;
+  kept = subst (λ (m : MemtableView). AreKept m.partitions is.own) (sym grown.same) is.kept;
+}
+
 module _ (was now : Book) where
-  parts_stay : (folder : Folder) (p : Partitioner) (t : TableParts) (listed : List view.Part) (parts : List Part) → ((number : ℕ) → IsOneOf (map_numbers listed) number → map_.get now number ≡ map_.get was number)
+  parts_stay : (folder : Folder) (p : Partitioner) (t : TableParts) (listed : List view.Part) (parts : List Part) → ((number : ℕ) → IsOneOf (map_numbers listed) number → IsGrown (map_.get was number) (map_.get now number))
       → ArePartsOf folder p t was listed parts → ArePartsOf folder p t now listed parts
   parts_stay folder p t [] [] same are = are
   parts_stay folder p t [] (q ∷ parts) same are = are
   parts_stay folder p t (v ∷ listed) [] same are = absurd are
   parts_stay folder p t (view_part.File number indexes ∷ listed) (q ∷ parts) same are = (are.0, parts_stay folder p t listed parts same are.1)
   parts_stay folder p t (view_part.Map number ∷ listed) (q ∷ parts) same are =
-      (subst (λ (o : Option MapPart). IsMapIn t o q) (sym (same number (inl refl))) are.0, parts_stay folder p t listed parts (λ n is. same n (inr is)) are.1)
+      (map_stays t (map_.get was number) (map_.get now number) q (same number (inl refl)) are.0, parts_stay folder p t listed parts (λ n is. same n (inr is)) are.1)
 
-  -- **A view stays one in a book that has the same of its maps.**
-  pub view_stays : (w : PlanWorld) → ((number : ℕ) → IsOneOf (map_numbers w.listed) number → map_.get now number ≡ map_.get was number) → IsViewOf w was → IsViewOf w now
+  -- **A view stays one in a book that has its maps, perhaps with further indexes.**
+  pub view_stays : (w : PlanWorld) → ((number : ℕ) → IsOneOf (map_numbers w.listed) number → IsGrown (map_.get was number) (map_.get now number)) → IsViewOf w was → IsViewOf w now
   view_stays w same is = record {
     planned = record {
       own = is.planned.own;

@@ -22,6 +22,7 @@ use Rattle.sasi_candidates.specs.Candidates.{candidates}
 use Rattle.sasi_candidates.specs.Costs.{cost, file_cost, files_of, token_cost}
 use Rattle.sasi_model.specs.Filters.{key_asked, where_of}
 use Rattle.sasi_candidates.specs.Parts.{maps_of}
+use Rattle.sasi_recheck.specs.Growth.{IsGrown}
 use Rattle.sasi_recheck.specs.Sources.{Candidate, first_price}
 use Rattle.sasi_engine.specs.declared.relation.IndexedRelation.{IndexedRelation}
 use Rattle.sasi_engine.specs.Asked.{asked_of}
@@ -104,10 +105,10 @@ plan_reads w (OfTable relations) limit = reads_by w relations.items limit (table
 
 -- ---- before the first candidate
 
--- the folder reads as that of the world, and the book has its maps, as far as the view goes
+-- the folder reads as that of the world, and the book has its maps, perhaps with further indexes, as far as the view goes
 pub record IsSeen (w : PlanWorld) (origin : Book) (files : Option Folder) (book : Book) : Type 0 where
   pub files_are : (name : FileName) → is_file_of w.listed name ≡ true → contents_in files name ≡ map_.get w.folder name
-  pub maps_are : (number : ℕ) → IsOneOf (map_numbers w.listed) number → map_.get book number ≡ map_.get origin number
+  pub maps_are : (number : ℕ) → IsOneOf (map_numbers w.listed) number → IsGrown (map_.get origin number) (map_.get book number)
 
 -- what a plan is read by, before its first candidate
 pub record IsPending (w : PlanWorld) (origin : Book) (source : PlanSource) (types : List ColumnType) (listed : List view.Part) (files : Option Folder) (book : Book) : Type 0 where

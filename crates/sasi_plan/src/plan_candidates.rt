@@ -304,6 +304,7 @@ fn next_since<C: Candidates, H: Host, P: PageReader>(
     ensures read { HasStreamed (P.agrees pages.new) (P.covers pages.old) (P.covers pages.new) (C.opens source.old) (C.opens source.new) (H.view host.old) (H.view host.new) }
     ensures faults { StreamFaults (C.shows source.old (H.view host.old).files) (C.shows source.new (H.view host.new).files)
         (λ left. Since (C.opens source.old) (C.uses source.old) (λ was origin. C.leaves source.old was origin left) (H.view host.old).files maps.now) (H.view host.old) (H.view host.new) result }
+    ensures shows_less { (files : Option Folder) (damage : Damage) → C.shows source.new files damage → C.shows source.old files damage }
 {
     source.next(host, pages, maps)
 }

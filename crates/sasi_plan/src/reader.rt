@@ -111,6 +111,7 @@ impl Reader {
         ensures read { HasStreamed (P.agrees pages.new) (P.covers pages.old) (P.covers pages.new) (⟦<PlanCandidates as Candidates>⟧.opens self.old.rows.candidates) (⟦<PlanCandidates as Candidates>⟧.opens self.new.rows.candidates) (H.view host.old) (H.view host.new) }
         ensures faults { StreamFaults (⟦<PlanCandidates as Candidates>⟧.shows self.old.rows.candidates (H.view host.old).files) (⟦<PlanCandidates as Candidates>⟧.shows self.new.rows.candidates (H.view host.new).files)
             (RowsLeft ⟦<PlanCandidates as Candidates>⟧.leaves self.old.rows (H.view host.old).files maps.now) (H.view host.old) (H.view host.new) result }
+        ensures shows_less { (files : Option Folder) (damage : Damage) → ⟦<PlanCandidates as Candidates>⟧.shows self.new.rows.candidates files damage → ⟦<PlanCandidates as Candidates>⟧.shows self.old.rows.candidates files damage }
     {
         self.rows.next(host, pages, maps, kit)
     }
@@ -148,6 +149,7 @@ impl Reader {
         ensures read { HasStreamed (P.agrees pages.new) (P.covers pages.old) (P.covers pages.new) (⟦<PlanCandidates as Candidates>⟧.opens self.old.rows.candidates) (⟦<PlanCandidates as Candidates>⟧.opens self.new.rows.candidates) (H.view host.old) (H.view host.new) }
         ensures faults { RowFaults (⟦<PlanCandidates as Candidates>⟧.shows self.old.rows.candidates (H.view host.old).files) (⟦<PlanCandidates as Candidates>⟧.shows self.new.rows.candidates (H.view host.new).files)
             (RowsLeft ⟦<PlanCandidates as Candidates>⟧.leaves self.old.rows (H.view host.old).files maps.now) (H.view host.old) (H.view host.new) result }
+        ensures shows_less { (files : Option Folder) (damage : Damage) → ⟦<PlanCandidates as Candidates>⟧.shows self.new.rows.candidates files damage → ⟦<PlanCandidates as Candidates>⟧.shows self.old.rows.candidates files damage }
     {
         match first_lacked(self.rows.filter().conditions(), kit) {
             Some(class) => Err(PlanFault::Missing(class)),

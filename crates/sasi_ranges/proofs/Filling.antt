@@ -87,7 +87,7 @@ module _ {S : Type 0} (d : Headed S) where
   show_at shows x (k ∷ hs) zero damage at is = inl is
   show_at shows x (k ∷ hs) (suc i) damage at is = inr (show_at shows x hs i damage (omega arith) is)
 
-  show_set : (shows : S → Option Folder → Damage → Type 0) (x y : Option Folder) (hs : List (Headed S)) (i : ℕ) (new : Headed S) (damage : Damage) → y ≡ x
+  pub show_set : (shows : S → Option Folder → Damage → Type 0) (x y : Option Folder) (hs : List (Headed S)) (i : ℕ) (new : Headed S) (damage : Damage) → y ≡ x
       → (shows new.stream y damage → shows (slice_index_or hs i d).stream x damage) → HeadsShow shows y (slice_set hs i new) damage
       → HeadsShow shows x hs damage
   show_set shows x y [] i new damage same fewer is = absurd is

@@ -1,5 +1,7 @@
 // A stream with its first entry.
-ghost use Rattle.std.specs.Prelude.{◌≡◌, ℕ, List, IfOk, OnOk};
+ghost use Rattle.std.specs.Prelude.{◌≡◌, ℕ, List, Option, IfOk, OnOk};
+ghost use Rattle.sasi_host.specs.declared.damage.Damage.{Damage};
+ghost use Rattle.sasi_host.specs.Names.{Folder};
 ghost use Rattle.sasi_ranges.specs.declared.entry.Entry.{Entry as SpecEntry};
 ghost use Rattle.sasi_ranges.specs.Entries.{from_token};
 ghost use Rattle.sasi_ranges.specs.StreamCalls.{CanStream, HasStreamed, Spends, StreamFaults};
@@ -49,6 +51,7 @@ pub(crate) fn fill<S: TokenStream, H: Host, P: PageReader>(
     ensures ready { OnOk result (S.ready head.new.stream (H.view host.new).files) }
     ensures read { HasStreamed (P.agrees pages.new) (P.covers pages.old) (P.covers pages.new) (S.opens head.old.stream) (S.opens head.new.stream) (H.view host.old) (H.view host.new) }
     ensures faults { StreamFaults (S.shows head.old.stream (H.view host.old).files) (S.shows head.new.stream (H.view host.new).files) (HeadLeaves S.leaves (H.view host.old).files head.old) (H.view host.old) (H.view host.new) result }
+    ensures shows_less { (files : Option Folder) (damage : Damage) → S.shows head.new.stream files damage → S.shows head.old.stream files damage }
 {
     match head.head {
         Head::Unread => {
@@ -90,6 +93,7 @@ pub(crate) fn skip_head<S: TokenStream, H: Host, P: PageReader>(
     ensures ready { OnOk result (S.ready head.new.stream (H.view host.new).files) }
     ensures read { HasStreamed (P.agrees pages.new) (P.covers pages.old) (P.covers pages.new) (S.opens head.old.stream) (S.opens head.new.stream) (H.view host.old) (H.view host.new) }
     ensures faults { StreamFaults (S.shows head.old.stream (H.view host.old).files) (S.shows head.new.stream (H.view host.new).files) (HeadLeaves S.leaves (H.view host.old).files head.old) (H.view host.old) (H.view host.new) result }
+    ensures shows_less { (files : Option Folder) (damage : Damage) → S.shows head.new.stream files damage → S.shows head.old.stream files damage }
 {
     match head.head {
         Head::Unread => head.stream.skip_to(host, pages, token),

@@ -1,5 +1,7 @@
 // Many streams, each with its first entry.
-ghost use Rattle.std.specs.Prelude.{◌≡◌, ℕ, List, map, None, IfOk, OnOk};
+ghost use Rattle.std.specs.Prelude.{◌≡◌, ℕ, List, map, None, Option, IfOk, OnOk};
+ghost use Rattle.sasi_host.specs.declared.damage.Damage.{Damage};
+ghost use Rattle.sasi_host.specs.Names.{Folder};
 ghost use Rattle.sasi_ranges.specs.declared.entry.Entry.{Entry as SpecEntry};
 ghost use Rattle.sasi_ranges.specs.Entries.{from_token};
 ghost use Rattle.sasi_ranges.specs.StreamCalls.{CanStream, HasStreamed, Spends, StreamFaults};
@@ -40,6 +42,7 @@ pub(crate) fn fill_all<S: TokenStream, H: Host, P: PageReader>(
     ensures ready { OnOk result (HeadsReady S.ready (H.view host.new).files streams.new) }
     ensures read { HasStreamed (P.agrees pages.new) (P.covers pages.old) (P.covers pages.new) (HeadsOpen S.opens streams.old) (HeadsOpen S.opens streams.new) (H.view host.old) (H.view host.new) }
     ensures faults { StreamFaults (HeadsShow S.shows (H.view host.old).files streams.old) (HeadsShow S.shows (H.view host.new).files streams.new) (AllLeave S.leaves (H.view host.old).files streams.old) (H.view host.old) (H.view host.new) result }
+    ensures shows_less { (files : Option Folder) (damage : Damage) → HeadsShow S.shows files streams.new damage → HeadsShow S.shows files streams.old damage }
 {
     for head in streams.iter_mut() {
         fill(host, pages, head)?;
@@ -101,6 +104,7 @@ pub(crate) fn skip_all<S: TokenStream, H: Host, P: PageReader>(
     ensures ready { OnOk result (HeadsReady S.ready (H.view host.new).files streams.new) }
     ensures read { HasStreamed (P.agrees pages.new) (P.covers pages.old) (P.covers pages.new) (HeadsOpen S.opens streams.old) (HeadsOpen S.opens streams.new) (H.view host.old) (H.view host.new) }
     ensures faults { StreamFaults (HeadsShow S.shows (H.view host.old).files streams.old) (HeadsShow S.shows (H.view host.new).files streams.new) (AllLeave S.leaves (H.view host.old).files streams.old) (H.view host.old) (H.view host.new) result }
+    ensures shows_less { (files : Option Folder) (damage : Damage) → HeadsShow S.shows files streams.new damage → HeadsShow S.shows files streams.old damage }
 {
     for head in streams.iter_mut() {
         skip_head(host, pages, head, token)?;

@@ -103,6 +103,7 @@ fn take_current<S: TokenStream, H: Host, P: PageReader>(
     ensures ready { OnOk result (HeadsReady S.ready (H.view host.new).files streams.new) }
     ensures read { HasStreamed (P.agrees pages.new) (P.covers pages.old) (P.covers pages.new) (HeadsOpen S.opens streams.old) (HeadsOpen S.opens streams.new) (H.view host.old) (H.view host.new) }
     ensures faults { StreamFaults (HeadsShow S.shows (H.view host.old).files streams.old) (HeadsShow S.shows (H.view host.new).files streams.new) (λ (es : List SpecEntry). (relations : List (List ℕ)) × MetLeaves S.leaves (H.view host.old).files streams.old relations current es) (H.view host.old) (H.view host.new) result }
+    ensures shows_less { (files : Option Folder) (damage : Damage) → HeadsShow S.shows files streams.new damage → HeadsShow S.shows files streams.old damage }
 {
     let Some(token) = current else {
         return Ok(None);
@@ -125,6 +126,7 @@ fn next_agreed<S: TokenStream, H: Host, P: PageReader>(
     ensures ready { OnOk result (HeadsReady S.ready (H.view host.new).files streams.new) }
     ensures read { HasStreamed (P.agrees pages.new) (P.covers pages.old) (P.covers pages.new) (HeadsOpen S.opens streams.old) (HeadsOpen S.opens streams.new) (H.view host.old) (H.view host.new) }
     ensures faults { StreamFaults (HeadsShow S.shows (H.view host.old).files streams.old) (HeadsShow S.shows (H.view host.new).files streams.new) (MetLeaves S.leaves (H.view host.old).files streams.old relations.now None) (H.view host.old) (H.view host.new) result }
+    ensures shows_less { (files : Option Folder) (damage : Damage) → HeadsShow S.shows files streams.new damage → HeadsShow S.shows files streams.old damage }
 {
     let mut from = 0;
     'tokens: loop {
@@ -156,6 +158,7 @@ fn next_met<S: TokenStream, H: Host, P: PageReader>(
     ensures ready { OnOk result (HeadsReady S.ready (H.view host.new).files streams.new) }
     ensures read { HasStreamed (P.agrees pages.new) (P.covers pages.old) (P.covers pages.new) (HeadsOpen S.opens streams.old) (HeadsOpen S.opens streams.new) (H.view host.old) (H.view host.new) }
     ensures faults { StreamFaults (HeadsShow S.shows (H.view host.old).files streams.old) (HeadsShow S.shows (H.view host.new).files streams.new) (MetLeaves S.leaves (H.view host.old).files streams.old relations.now current.old) (H.view host.old) (H.view host.new) result }
+    ensures shows_less { (files : Option Folder) (damage : Damage) → HeadsShow S.shows files streams.new damage → HeadsShow S.shows files streams.old damage }
 {
     if let Some(entry) = take_current(host, pages, streams, *current)? {
         return Ok(Some(entry));

@@ -26,7 +26,7 @@ pub trait TokenStream {
     /// The pages that it keeps are those of these files, whether or not they are in the format.
     ghost ready: { Self → Option Folder → Type 0 };
 
-    /// These files show it this damage.
+    /// These files show it this damage. No call makes it more, whatever the files are.
     ghost shows: { Self → Option Folder → Damage → Type 0 };
 
     /// The next entry; None exactly where no entry is left.
@@ -41,7 +41,8 @@ pub trait TokenStream {
         ensures reads { (most : ℕ) → pays self.old (H.view host.old).files most → Spends (pays self.new (H.view host.new).files) most (H.view host.old).reads (H.view host.new).reads result }
         ensures ready { OnOk result (ready self.new (H.view host.new).files) }
         ensures read { HasStreamed (P.agrees pages.new) (P.covers pages.old) (P.covers pages.new) (opens self.old) (opens self.new) (H.view host.old) (H.view host.new) }
-        ensures faults { StreamFaults (shows self.old (H.view host.old).files) (shows self.new (H.view host.new).files) (leaves self.old (H.view host.old).files) (H.view host.old) (H.view host.new) result };
+        ensures faults { StreamFaults (shows self.old (H.view host.old).files) (shows self.new (H.view host.new).files) (leaves self.old (H.view host.old).files) (H.view host.old) (H.view host.new) result }
+        ensures shows_less { (files : Option Folder) (damage : Damage) → shows self.new files damage → shows self.old files damage };
 
     /// Drops the entries whose tokens are below this one.
     fn skip_to<H: Host, P: PageReader>(
@@ -56,7 +57,8 @@ pub trait TokenStream {
         ensures reads { (most : ℕ) → pays self.old (H.view host.old).files most → Spends (pays self.new (H.view host.new).files) most (H.view host.old).reads (H.view host.new).reads result }
         ensures ready { OnOk result (ready self.new (H.view host.new).files) }
         ensures read { HasStreamed (P.agrees pages.new) (P.covers pages.old) (P.covers pages.new) (opens self.old) (opens self.new) (H.view host.old) (H.view host.new) }
-        ensures faults { StreamFaults (shows self.old (H.view host.old).files) (shows self.new (H.view host.new).files) (leaves self.old (H.view host.old).files) (H.view host.old) (H.view host.new) result };
+        ensures faults { StreamFaults (shows self.old (H.view host.old).files) (shows self.new (H.view host.new).files) (leaves self.old (H.view host.old).files) (H.view host.old) (H.view host.new) result }
+        ensures shows_less { (files : Option Folder) (damage : Damage) → shows self.new files damage → shows self.old files damage };
 
     /// What is left rises.
     ghost rises: { (s : Self) (files : Option Folder) (es : List SpecEntry) → leaves s files es → Rises es };

@@ -37,6 +37,7 @@ fn next_of<S: TokenStream, H: Host, P: PageReader>(
     ensures ready { OnOk result (HeadsReady S.ready (H.view host.new).files streams.new) }
     ensures read { HasStreamed (P.agrees pages.new) (P.covers pages.old) (P.covers pages.new) (HeadsOpen S.opens streams.old) (HeadsOpen S.opens streams.new) (H.view host.old) (H.view host.new) }
     ensures faults { StreamFaults (HeadsShow S.shows (H.view host.old).files streams.old) (HeadsShow S.shows (H.view host.new).files streams.new) (UnionLeaves S.leaves (H.view host.old).files streams.old) (H.view host.old) (H.view host.new) result }
+    ensures shows_less { (files : Option Folder) (damage : Damage) → HeadsShow S.shows files streams.new damage → HeadsShow S.shows files streams.old damage }
 {
     fill_all(host, pages, streams)?;
     match least_of(streams) {

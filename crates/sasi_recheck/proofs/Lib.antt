@@ -1,1 +1,2 @@
+pub mod GrowthLaws
 mod TurnLaws

@@ -1,4 +1,5 @@
 pub mod Sources
+pub mod Growth
 pub mod Rows
 pub mod Optional
 pub mod inside

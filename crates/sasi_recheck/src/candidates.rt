@@ -8,6 +8,7 @@ ghost use Rattle.sasi_host.specs.Names.{Folder};
 ghost use Rattle.sasi_host.specs.View.{contents_in};
 ghost use Rattle.sasi_memindex.specs.Book.{Book};
 ghost use Rattle.sasi_ranges.specs.StreamCalls.{CanStream, HasStreamed, Spends, StreamFaults};
+ghost use Rattle.sasi_recheck.specs.Growth.{IsGrown};
 ghost use Rattle.sasi_recheck.specs.Sources.{Candidate, GivesFirst, GivesPrintable, first_price};
 
 use sasi_cells::Partition;
@@ -33,7 +34,7 @@ pub trait Candidates {
     /// What it keeps of these files was read from them, whether or not they are in the format.
     ghost ready: { Self → Option Folder → Book → Type 0 };
 
-    /// These files show it this damage.
+    /// These files show it this damage. No call makes it more, whatever the files are.
     ghost shows: { Self → Option Folder → Damage → Type 0 };
 
     /// Whatever the files are, what it gives can be printed in a table whose keys have this type.
@@ -62,9 +63,10 @@ pub trait Candidates {
         ensures prints { (kind : ColumnType) → prints self.old (H.view host.old).files maps.now kind → IfOk result (GivesPrintable kind) }
         ensures still_prints { (kind : ColumnType) → prints self.old (H.view host.old).files maps.now kind → OnOk result (prints self.new (H.view host.new).files maps.now kind) }
         ensures read { HasStreamed (P.agrees pages.new) (P.covers pages.old) (P.covers pages.new) (opens self.old) (opens self.new) (H.view host.old) (H.view host.new) }
-        ensures faults { StreamFaults (shows self.old (H.view host.old).files) (shows self.new (H.view host.new).files) (leaves self.old (H.view host.old).files maps.now) (H.view host.old) (H.view host.new) result };
+        ensures faults { StreamFaults (shows self.old (H.view host.old).files) (shows self.new (H.view host.new).files) (leaves self.old (H.view host.old).files maps.now) (H.view host.old) (H.view host.new) result }
+        ensures shows_less { (files : Option Folder) (damage : Damage) → shows self.new files damage → shows self.old files damage };
 
-    /// What is known of it stays while the files and the maps that it looks at are unchanged.
-    ghost keeps: { (s : Self) (old new : Option Folder) (was now : Book) → (IsSome new → IsSome old) → ((name : FileName) → opens s name → contents_in new name ≡ contents_in old name) → ((number : ℕ) → uses s number → get now number ≡ get was number)
+    /// What is known of it stays while the files that it may read are unchanged, and of the maps that it looks at at most indexes were added.
+    ghost keeps: { (s : Self) (old new : Option Folder) (was now : Book) → (IsSome new → IsSome old) → ((name : FileName) → opens s name → contents_in new name ≡ contents_in old name) → ((number : ℕ) → uses s number → IsGrown (get was number) (get now number))
         → (ready s old was → ready s new now) × ((left : List Candidate) → leaves s old was left → leaves s new now left) × ((most : ℕ) (prices : List ℕ) → pays s old was most prices → pays s new now most prices) × ((kind : ColumnType) → prints s old was kind → prints s new now kind) };
 }

@@ -1,6 +1,8 @@
 // The next row of candidates.
-ghost use Rattle.std.specs.Prelude.{◌≡◌, ◌+◌, ℕ, List, IfOk, OnOk, drop, map, sum, take};
+ghost use Rattle.std.specs.Prelude.{◌≡◌, ◌+◌, ℕ, List, Option, IfOk, OnOk, drop, map, sum, take};
 ghost use Rattle.sasi_types.specs.declared.column.ColumnType.{ColumnType};
+ghost use Rattle.sasi_host.specs.declared.damage.Damage.{Damage};
+ghost use Rattle.sasi_host.specs.Names.{Folder};
 ghost use Rattle.sasi_model.specs.Filters.{accepts, answers, where_of};
 ghost use Rattle.sasi_machine.specs.Where.{HasTexts};
 ghost use Rattle.sasi_ranges.specs.StreamCalls.{CanStream, HasStreamed, Spends, StreamFaults};
@@ -42,6 +44,7 @@ pub(crate) fn next_row<C: Candidates, H: Host, P: PageReader>(
     ensures kinds { map (λ b. kind (b.vtable, b.value)) kit.new.objects.items ≡ map (λ b. kind (b.vtable, b.value)) kit.old.objects.items }
     ensures read { HasStreamed (P.agrees pages.new) (P.covers pages.old) (P.covers pages.new) (C.opens candidates.old) (C.opens candidates.new) (H.view host.old) (H.view host.new) }
     ensures faults { StreamFaults (C.shows candidates.old (H.view host.old).files) (C.shows candidates.new (H.view host.new).files) (C.leaves candidates.old (H.view host.old).files maps.now) (H.view host.old) (H.view host.new) result }
+    ensures shows_less { (files : Option Folder) (damage : Damage) → C.shows candidates.new files damage → C.shows candidates.old files damage }
 {
     for _turn in 0..u64::MAX {
         match candidates.next(host, pages, maps)? {

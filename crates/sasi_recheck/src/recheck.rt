@@ -1,6 +1,8 @@
 // Candidates that are rechecked.
-ghost use Rattle.std.specs.Prelude.{◌≡◌, ◌+◌, ℕ, List, IfOk, OnOk, drop, map, sum, take};
+ghost use Rattle.std.specs.Prelude.{◌≡◌, ◌+◌, ℕ, List, Option, IfOk, OnOk, drop, map, sum, take};
 ghost use Rattle.sasi_types.specs.declared.column.ColumnType.{ColumnType};
+ghost use Rattle.sasi_host.specs.declared.damage.Damage.{Damage};
+ghost use Rattle.sasi_host.specs.Names.{Folder};
 ghost use Rattle.sasi_model.specs.Filters.{answers, where_of};
 ghost use Rattle.sasi_ranges.specs.StreamCalls.{CanStream, HasStreamed, Spends, StreamFaults};
 ghost use Rattle.sasi_recheck.specs.Rows.{GivesAllowed, KnowsWhere, allowed_after, asked_in, counted_on, looked_in};
@@ -80,6 +82,7 @@ impl<C: Candidates + Drop> Recheck<C> {
         ensures kinds { map (λ b. kind (b.vtable, b.value)) kit.new.objects.items ≡ map (λ b. kind (b.vtable, b.value)) kit.old.objects.items }
         ensures read { HasStreamed (P.agrees pages.new) (P.covers pages.old) (P.covers pages.new) (C.opens self.old.candidates) (C.opens self.new.candidates) (H.view host.old) (H.view host.new) }
         ensures faults { StreamFaults (C.shows self.old.candidates (H.view host.old).files) (C.shows self.new.candidates (H.view host.new).files) (C.leaves self.old.candidates (H.view host.old).files maps.now) (H.view host.old) (H.view host.new) result }
+        ensures shows_less { (files : Option Folder) (damage : Damage) → C.shows self.new.candidates files damage → C.shows self.old.candidates files damage }
     {
         if self.rows_left == Some(0) {
             return Ok(None);

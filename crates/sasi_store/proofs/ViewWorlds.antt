@@ -1,5 +1,5 @@
 -- The world of a plan over the current parts of a table.
-use Rattle.std.proofs.Common.{◌≡◌, ℕ, suc, ◌-◌, ◌≤◌, Bool, true, false, cond, ◌||◌, nat_eq, is_some, List, [], ◌∷◌, ◌++◌, length, map, slice_get, Option, None, Some, refl, sym, ap, ap₂, subst, ◌∙◌, arith}
+use Rattle.std.proofs.Common.{◌≡◌, ℕ, suc, ◌-◌, ◌≤◌, Bool, true, false, cond, ◌||◌, nat_eq, is_some, List, [], ◌∷◌, ◌++◌, length, map, slice_get, Option, None, Some, refl, sym, ap, ap₂, subst, ◌∙◌, arith, append-nil}
 use Rattle.std.proofs.lemmas.Bool.Decides.{nat_tests}
 use Rattle.std.specs.FinMap.{get}
 use Rattle.std.specs.List.{AllByRecursion, zip}
@@ -247,6 +247,9 @@ module _ (v : View) (sound : IsSound v) (p : Parts) (of : IsOfParts p) (ready : 
   map_is = record {
     part_is = ap (λ (h : TableMap). part_of_map h.memtable.partitions) (sym own.2)
         ∙ ap (λ (o : Option MapPart). part_of_map (option_map_or (λ (part : MapPart). part.map) o (empty_memtable Lead8)).partitions) mapped.3;
+    own = mapped.0.indexes;
+    later = [];
+    indexes_are = sym (append-nil mapped.0.indexes);
     subjects_are = mapped.4.subjects_are ∙ one_there mapped.1 (subjects_of (listed_of t)) (slice_get (wanted_of p) at) mapped.2 (map_there subjects_of p.manifest.listing.tables at (listed_of t) listed);
     kept = mapped.4.kept;
   }

@@ -1,5 +1,7 @@
 // The rows of a reader, as a SELECT prints them.
-ghost use Rattle.std.specs.Prelude.{◌≡◌, ◌+◌, ◌++◌, ◌≤◌, ℕ, List, IfErr, IfOk, OnOk, false, map};
+ghost use Rattle.std.specs.Prelude.{◌≡◌, ◌+◌, ◌++◌, ◌≤◌, ℕ, List, Option, IfErr, IfOk, OnOk, false, map};
+ghost use Rattle.sasi_host.specs.declared.damage.Damage.{Damage};
+ghost use Rattle.sasi_host.specs.Names.{Folder};
 ghost use Rattle.sasi_host.specs.Damages.{OnDamage};
 ghost use Rattle.sasi_host.specs.Disk.{Changes, Same};
 ghost use Rattle.sasi_model.specs.Cells.{Partition as SpecPartition};
@@ -85,6 +87,7 @@ fn print_next<H: Host, P: PageReader>(
     ensures read { HasStreamed (P.agrees pages.new) (P.covers pages.old) (P.covers pages.new) (⟦<PlanCandidates as Candidates>⟧.opens reader.old.rows.candidates) (⟦<PlanCandidates as Candidates>⟧.opens reader.new.rows.candidates) (H.view host.old) (H.view host.new) }
     ensures faults { StreamFaults (⟦<PlanCandidates as Candidates>⟧.shows reader.old.rows.candidates (H.view host.old).files) (⟦<PlanCandidates as Candidates>⟧.shows reader.new.rows.candidates (H.view host.new).files)
         (RowsLeft ⟦<PlanCandidates as Candidates>⟧.leaves reader.old.rows (H.view host.old).files maps.now) (H.view host.old) (H.view host.new) result }
+    ensures shows_less { (files : Option Folder) (damage : Damage) → ⟦<PlanCandidates as Candidates>⟧.shows reader.new.rows.candidates files damage → ⟦<PlanCandidates as Candidates>⟧.shows reader.old.rows.candidates files damage }
 {
     let Some((key, part)) = reader.next_partition(host, pages, maps, kit)? else {
         return Ok(false);

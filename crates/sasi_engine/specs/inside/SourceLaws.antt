@@ -1,7 +1,7 @@
--- What is known of a source of candidates stays while the files and the maps that it looks at are unchanged.
+-- What is known of a source of candidates stays while its files are unchanged, and its maps but for indexes that were added.
 use Rattle.std.proofs.Common.{◌≡◌, ℕ, List, [], ◌∷◌, ◌++◌, Option, None, Some, IfSome, refl, ap₂, subst, sym, ◌∙◌, inl, inr}
 use Rattle.std.specs.FinMap.{empty, get}
-use Rattle.std.specs.Option.{IsSomeAnd, option_map_or}
+use Rattle.std.specs.Option.{IsSomeAnd}
 use Rattle.sasi_types.specs.declared.column.ColumnType.{ColumnType}
 use Rattle.sasi_types.specs.declared.decorated_key.DecoratedKey.{DecoratedKey}
 use Rattle.sasi_host.specs.declared.name.FileName.{FileName}
@@ -9,12 +9,13 @@ use Rattle.sasi_host.specs.Names.{Folder}
 use Rattle.sasi_host.specs.View.{contents_in}
 use Rattle.sasi_model.specs.Abbreviations.{Partitions}
 use Rattle.sasi_memindex.specs.Book.{Book}
-use Rattle.sasi_memindex.specs.declared.map_part.MapPart.{MapPart}
 use Rattle.sasi_memtable.specs.MemtableView.{MemtableView}
 use Rattle.sasi_ranges.specs.declared.entry.Entry.{Entry}
 use Rattle.sasi_lookup.specs.Lookups.{Opens}
 use Rattle.sasi_lookup.proofs.Keeping.{lookup_keeps}
+use Rattle.sasi_recheck.specs.Growth.{IsGrown}
 use Rattle.sasi_recheck.specs.Sources.{Candidate}
+use Rattle.sasi_recheck.proofs.GrowthLaws.{grown_seen}
 use Rattle.sasi_sources.specs.KeyCandidates.{HasKeyType}
 use Rattle.sasi_engine.specs.declared.hand.Hand.{Hand}
 use Rattle.sasi_engine.specs.HitCandidates.{IsLeft, PlanWorld}
@@ -26,20 +27,20 @@ use Rattle.sasi_engine.specs.TokenHits.{views_numbered}
 
 -- ---- maps
 
-pub maps_stay : (was now : Book) (numbers : List ℕ) → ((number : ℕ) → IsOneOf numbers number → get now number ≡ get was number) → maps_numbered now numbers ≡ maps_numbered was numbers
+pub maps_stay : (was now : Book) (numbers : List ℕ) → ((number : ℕ) → IsOneOf numbers number → IsGrown (get was number) (get now number)) → maps_numbered now numbers ≡ maps_numbered was numbers
 maps_stay was now [] same = refl
 maps_stay was now (n ∷ ns) same =
-    ap₂ (λ (o : Option MapPart) (ms : List Partitions). option_map_or (λ (m : MapPart). m.map.partitions) o empty ∷ ms) (same n (inl refl)) (maps_stay was now ns (λ number is. same number (inr is)))
+    ap₂ (λ (m : Partitions) (ms : List Partitions). m ∷ ms) (grown_seen (λ (m : MemtableView). m.partitions) empty (get was n) (get now n) (same n (inl refl))) (maps_stay was now ns (λ number is. same number (inr is)))
 
-pub views_stay : (was now : Book) (numbers : List ℕ) → ((number : ℕ) → IsOneOf numbers number → get now number ≡ get was number) → views_numbered now numbers ≡ views_numbered was numbers
+pub views_stay : (was now : Book) (numbers : List ℕ) → ((number : ℕ) → IsOneOf numbers number → IsGrown (get was number) (get now number)) → views_numbered now numbers ≡ views_numbered was numbers
 views_stay was now [] same = refl
 views_stay was now (n ∷ ns) same =
-    ap₂ (λ (o : Option MapPart) (ms : List MemtableView). option_map_or (λ (part : MapPart). part.map ∷ []) o [] ++ ms) (same n (inl refl)) (views_stay was now ns (λ number is. same number (inr is)))
+    ap₂ (λ (here ms : List MemtableView). here ++ ms) (grown_seen (λ (m : MemtableView). m ∷ []) [] (get was n) (get now n) (same n (inl refl))) (views_stay was now ns (λ number is. same number (inr is)))
 
 -- ---- a source
 
 module _ (Left : Option Folder → List Entry → Type 0) (Pays : Option Folder → ℕ → Type 0) (ahead : Option Entry) (hand : Hand) (old new : Option Folder) (was now : Book) (same : (name : FileName) → Opens hand.lookup name → contents_in new name ≡ contents_in old name)
-    (maps : (number : ℕ) → IsOneOf hand.maps.items number → get now number ≡ get was number) (stays : (es : List Entry) → Left old es → Left new es) (still : (most : ℕ) → Pays old most → Pays new most) where
+    (maps : (number : ℕ) → IsOneOf hand.maps.items number → IsGrown (get was number) (get now number)) (stays : (es : List Entry) → Left old es → Left new es) (still : (most : ℕ) → Pays old most → Pays new most) where
   abbrev pub is_left_still : (w : PlanWorld) (left : List Candidate) → IsLeft w old was (Left old) ahead hand left → IsLeft w new now (Left new) ahead hand left
   is_left_still w left is = record {
     origin = is.origin;
@@ -73,7 +74,7 @@ module _ (Left : Option Folder → List Entry → Type 0) (Pays : Option Folder 
 -- ---- a source of one key
 
 module _ (Left : Option Folder → List Entry → Type 0) (Pays : Option Folder → ℕ → Type 0) (hand : Hand) (key : DecoratedKey) (old new : Option Folder) (was now : Book) (same : (name : FileName) → Opens hand.lookup name → contents_in new name ≡ contents_in old name)
-    (maps : (number : ℕ) → IsOneOf hand.maps.items number → get now number ≡ get was number) (stays : (es : List Entry) → Left old es → Left new es) (still : (most : ℕ) → Pays old most → Pays new most) where
+    (maps : (number : ℕ) → IsOneOf hand.maps.items number → IsGrown (get was number) (get now number)) (stays : (es : List Entry) → Left old es → Left new es) (still : (most : ℕ) → Pays old most → Pays new most) where
   abbrev key_left_still : (w : PlanWorld) (left : List Candidate) → IsKeyLeft w old was (Left old) hand key left → IsKeyLeft w new now (Left new) hand key left
   key_left_still w left is = record {
     by_hits = is.by_hits;
@@ -89,7 +90,7 @@ module _ (Left : Option Folder → List Entry → Type 0) (Pays : Option Folder 
 
 pub keyed_keeps : (Left : Option Folder → List Entry → Type 0) (Pays : Option Folder → ℕ → Type 0) (Opened : FileName → Type 0) (Ready : Option Folder → Type 0) (hand : Hand) (key : Option DecoratedKey) (old new : Option Folder) (was now : Book)
     → ((name : FileName) → IsSomeAnd key (λ k. SourceOpens Opened hand name) → contents_in new name ≡ contents_in old name)
-    → ((number : ℕ) → IsSomeAnd key (λ k. IsOneOf hand.maps.items number) → get now number ≡ get was number)
+    → ((number : ℕ) → IsSomeAnd key (λ k. IsOneOf hand.maps.items number) → IsGrown (get was number) (get now number))
     → (((name : FileName) → Opened name → contents_in new name ≡ contents_in old name) → (Ready old → Ready new) × ((es : List Entry) → Left old es → Left new es) × ((most : ℕ) → Pays old most → Pays new most))
     → (IfSome key (λ k. Ready old × IsHandReady hand old) → IfSome key (λ k. Ready new × IsHandReady hand new))
     × ((left : List Candidate) → KeyLeaves (Left old) hand key old was left → KeyLeaves (Left new) hand key new now left)

@@ -1,4 +1,4 @@
--- What is known of one source or another stays while the files and the maps that it looks at are unchanged.
+-- What is known of one source or another stays while its files are unchanged, and its maps but for indexes that were added.
 use Rattle.std.specs.Prelude.{◌≡◌, ℕ, List, Option, IsSome}
 use Rattle.std.specs.FinMap.{get}
 use Rattle.either.specs.Either.{MatchEither}
@@ -9,13 +9,14 @@ use Rattle.sasi_host.specs.declared.name.FileName.{FileName}
 use Rattle.sasi_host.specs.Names.{Folder}
 use Rattle.sasi_host.specs.View.{contents_in}
 use Rattle.sasi_memindex.specs.Book.{Book}
+use Rattle.sasi_recheck.specs.Growth.{IsGrown}
 use Rattle.sasi_recheck.specs.Sources.{Candidate}
 
 -- what the trait asks of a source
 abbrev pub Keeps : (S : Type 0) → (S → FileName → Type 0) → (S → ℕ → Type 0) → (S → Option Folder → Book → Type 0) → (S → Option Folder → Book → List Candidate → Type 0)
     → (S → Option Folder → Book → ℕ → List ℕ → Type 0) → (S → Option Folder → Book → ColumnType → Type 0) → Type 0
 Keeps S opens uses ready leaves pays prints =
-    (s : S) (old new : Option Folder) (was now : Book) → (IsSome new → IsSome old) → ((name : FileName) → opens s name → contents_in new name ≡ contents_in old name) → ((number : ℕ) → uses s number → get now number ≡ get was number)
+    (s : S) (old new : Option Folder) (was now : Book) → (IsSome new → IsSome old) → ((name : FileName) → opens s name → contents_in new name ≡ contents_in old name) → ((number : ℕ) → uses s number → IsGrown (get was number) (get now number))
     → (ready s old was → ready s new now) × ((left : List Candidate) → leaves s old was left → leaves s new now left) × ((most : ℕ) (prices : List ℕ) → pays s old was most prices → pays s new now most prices) × ((kind : ColumnType) → prints s old was kind → prints s new now kind)
 
 module _ {A B : Type 0} (opens_a : A → FileName → Type 0) (opens_b : B → FileName → Type 0) (uses_a : A → ℕ → Type 0) (uses_b : B → ℕ → Type 0) (ready_a : A → Option Folder → Book → Type 0) (ready_b : B → Option Folder → Book → Type 0)

@@ -1,4 +1,4 @@
--- What is known of a source that may be missing stays while the files and the maps that it looks at are unchanged.
+-- What is known of a source that may be missing stays while its files are unchanged, and its maps but for indexes that were added.
 use Rattle.std.specs.Prelude.{◌≡◌, ℕ, List, [], Option, None, Some}
 use Rattle.sasi_types.specs.declared.column.ColumnType.{ColumnType}
 use Rattle.sasi_host.specs.declared.name.FileName.{FileName}

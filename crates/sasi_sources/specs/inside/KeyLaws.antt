@@ -1,8 +1,7 @@
--- What is known of a look-up of a key stays while its files and its map are unchanged.
-use Rattle.std.proofs.Common.{◌≡◌, ℕ, List, [], ◌∷◌, Option, None, Some, refl, sym, ap, subst, ◌∙◌, inl, inr}
+-- What is known of a look-up of a key stays while its files are unchanged, and its map but for indexes that were added.
+use Rattle.std.proofs.Common.{◌≡◌, ℕ, List, [], ◌∷◌, Option, None, Some, refl, sym, subst, ◌∙◌, inl, inr}
 use Rattle.std.specs.FinMap.{get}
 use Rattle.std.specs.List.{AllByRecursion}
-use Rattle.std.specs.Option.{option_map_or}
 use Rattle.sasi_types.specs.declared.column.ColumnType.{ColumnType}
 use Rattle.sasi_types.specs.declared.decorated_key.DecoratedKey.{DecoratedKey}
 use Rattle.sasi_types.specs.declared.partitioner.Partitioner.{Partitioner}
@@ -11,19 +10,20 @@ use Rattle.sasi_host.specs.Names.{Folder, data_name}
 use Rattle.sasi_host.specs.View.{IsThere, View, contents_in}
 use Rattle.sasi_datawrite.specs.Format.{Content}
 use Rattle.sasi_manifest.specs.declared.files.ListedFile.{ListedFile}
-use Rattle.sasi_memindex.specs.declared.map_part.MapPart.{MapPart}
 use Rattle.sasi_memindex.specs.Book.{Book}
 use Rattle.sasi_memtable.specs.MemtableView.{MemtableView}
 use Rattle.sasi_scan.specs.Parts.{AreContents, HasContent}
+use Rattle.sasi_recheck.specs.Growth.{IsGrown}
+use Rattle.sasi_recheck.proofs.GrowthLaws.{grown_seen}
 use Rattle.sasi_recheck.specs.Sources.{Candidate}
 use Rattle.sasi_sources.specs.KeyCandidates.{HasKeyType, IsKeyOf, IsListed, KeyLeaves, KeyPays}
 use Rattle.sasi_sources.specs.Maps.{IsMap, maps_in}
 
 -- ---- maps
 
-pub maps_stay : (was now : Book) (map : Option ℕ) → ((number : ℕ) → IsMap map number → get now number ≡ get was number) → maps_in now map ≡ maps_in was map
+pub maps_stay : (was now : Book) (map : Option ℕ) → ((number : ℕ) → IsMap map number → IsGrown (get was number) (get now number)) → maps_in now map ≡ maps_in was map
 maps_stay was now None same = refl
-maps_stay was now (Some number) same = ap (λ (found : Option MapPart). option_map_or (λ (part : MapPart). part.map ∷ []) found []) (same number refl)
+maps_stay was now (Some number) same = grown_seen (λ (m : MemtableView). m ∷ []) [] (get was number) (get now number) (same number refl)
 
 -- ---- files
 
@@ -61,7 +61,7 @@ pays_stay types files None old new most prices same is = is
 pays_stay types files (Some key) old new most prices same is = (is.0, is.1, key_stays old new types files key is.0 is.1 same is.2, is.3)
 
 pub key_keeps : (types : List ColumnType) (files : List ListedFile) (key : Option DecoratedKey) (map : Option ℕ) (old new : Option Folder) (was now : Book) → ((name : FileName) → IsListed files name → contents_in new name ≡ contents_in old name)
-    → ((number : ℕ) → IsMap map number → get now number ≡ get was number)
+    → ((number : ℕ) → IsMap map number → IsGrown (get was number) (get now number))
     → (Unit {0} → Unit {0}) × ((left : List Candidate) → KeyLeaves types files key old (maps_in was map) left → KeyLeaves types files key new (maps_in now map) left)
     × ((most : ℕ) (prices : List ℕ) → KeyPays types files key old most prices → KeyPays types files key new most prices) × ((kind : ColumnType) → HasKeyType types (maps_in was map) kind → HasKeyType types (maps_in now map) kind)
 key_keeps types files key map old new was now same maps =

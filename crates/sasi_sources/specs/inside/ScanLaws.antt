@@ -1,4 +1,4 @@
--- What is known of a scan stays while its files and its map are unchanged.
+-- What is known of a scan stays while its files are unchanged, and its map but for indexes that were added.
 use Rattle.std.proofs.Common.{◌≡◌, ◌≤◌, ◌+◌, ◌-◌, ◌*◌, ℕ, List, [], ◌∷◌, Option, None, Some, IsSome, refl, sym, ap, subst, ◌∙◌, inl, inr}
 use Rattle.std.proofs.lemmas.List.Elements.{All-from_recursion}
 use Rattle.std.specs.FinMap.{get}
@@ -24,6 +24,7 @@ use Rattle.sasi_scan.specs.Scanning.{IsScanOf, ScanView}
 use Rattle.sasi_scan.specs.Sources.{CanStep, IsListedFile, IsListedSource, IsOpenIn}
 use Rattle.sasi_scan.specs.declared.source.Source.{Source}
 use Rattle.sasi_scan.specs.declared.source.Source.TheVariants.{File, Map}
+use Rattle.sasi_recheck.specs.Growth.{IsGrown}
 use Rattle.sasi_recheck.specs.Sources.{Candidate, first_price}
 use Rattle.sasi_sources.specs.KeyCandidates.{HasKeyType, IsListed}
 use Rattle.sasi_sources.specs.Maps.{IsMap, maps_in}
@@ -150,7 +151,7 @@ module _ (old new : Option Folder) (told : IsSome new → IsSome old) (files : L
       )
 
 pub scan_keeps : (types : List ColumnType) (files : List ListedFile) (scan : Option ScanView) (map : Option ℕ) (old new : Option Folder) (was now : Book) → (IsSome new → IsSome old) → ((name : FileName) → IsListed files name → contents_in new name ≡ contents_in old name)
-    → ((number : ℕ) → IsMap map number → get now number ≡ get was number)
+    → ((number : ℕ) → IsMap map number → IsGrown (get was number) (get now number))
     → (ScanReady types files scan old (maps_in was map) → ScanReady types files scan new (maps_in now map)) × ((left : List Candidate) → ScanLeaves types files scan old (maps_in was map) left → ScanLeaves types files scan new (maps_in now map) left)
     × ((most : ℕ) (prices : List ℕ) → ScanPays types files scan old (maps_in was map) most prices → ScanPays types files scan new (maps_in now map) most prices)
     × ((kind : ColumnType) → HasKeyType types (maps_in was map) kind → HasKeyType types (maps_in now map) kind)

@@ -20,6 +20,7 @@ loop-turn-init g c =
       paid = λ most prices pays. (most, 0, pays, omega arith);
       read = streams_nothing _ _ (SourceOpens (S.opens c.args.hits.now) c.args.hand.now) v c.requires.read.agrees;
       faults = λ n. fails_nothing (SourceShows (S.shows c.args.hits.now v.files) c.args.hand.now v.files) (SourceLeaves (S.leaves c.args.hits.now v.files) c.args.ahead.now c.args.hand.now v.files c.args.maps.now) v n;
+      shows_less = λ files damage is. is;
     }
 
 -- ---- a step that fails
@@ -135,6 +136,7 @@ loop-turn-preserved g c =
           step_passes (SourceOwes (S.leaves c.step.new.hits w.files) (S.pays c.step.new.hits w.files) c.step.new.ahead c.step.new.hand w.files c.args.maps.now) most paid.0 paid.1 prices u.reads v.reads w.reads c.in_ok-step.field-0 c.in-Passed.is paid.3 (c.in_ok-step.ensures.reads paid.0 paid.1 prices paid.2);
       read = streamed_then _ _ _ _ _ _ _ _ u v w on.read c.step.ensures.read;
       faults = λ n. faults_ok _ _ _ _ u w c.in_ok-step.field-0 n (faults_then _ _ _ _ _ u v w 0 _ (λ left is. (left, on.left left is)) (on.faults 0) c.in_ok-step.ensures.faults);
+      shows_less = λ files damage is. on.shows_less files damage (c.step.ensures.hits_show_less files damage is);
     }
 
 -- ---- more turns than there are

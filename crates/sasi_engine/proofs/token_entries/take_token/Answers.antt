@@ -18,6 +18,7 @@ loop-turn-init g c =
       paid = λ most pays. (most, pays, omega arith);
       read = streams_nothing _ _ (S.opens c.args.hits.now) v c.requires.read.agrees;
       faults = λ n. fails_nothing (S.shows c.args.hits.now v.files) (S.leaves c.args.hits.now v.files) v n;
+      shows_less = λ files damage is. is;
     }
 
 -- ---- a stream that fails
@@ -99,6 +100,7 @@ loop-turn-preserved g c =
           let one = c.in_ok-entry.ensures.reads paid.0 paid.1 in (one.0, one.1, omega (arith, one.2, paid.2));
       read = streamed_then _ _ _ _ _ _ _ _ u v w on.read c.next.ensures.read;
       faults = λ n. faults_ok _ _ _ _ u w c.in_ok-entry.field-0 n (faults_then _ _ _ _ _ u v w 0 _ (λ es is. (let taken = on.taken es is in (taken.behind, taken.left))) (on.faults 0) c.in_ok-entry.ensures.faults);
+      shows_less = λ files damage is. on.shows_less files damage (c.next.ensures.shows_less files damage is);
     }
 
 -- ---- more turns than there are

@@ -1,7 +1,7 @@
-use Rattle.std.proofs.Common.{◌<◌, ◌+◌, ◌≤◌, length, arith}
+use Rattle.std.proofs.Common.{◌<◌, ◌+◌, ◌≤◌, length, refl, arith}
 use Rattle.std.proofs.lemmas.Result.{err_from_is_err_and}
 use Rattle.sasi_ranges.proofs.Calling.{can_still, fails_nothing, faults_handed, faults_ok, faults_then, files_same, spent_err, streamed_then, streams_nothing}
-use Rattle.sasi_ranges.proofs.Filling.{can_at, faults_set, leave_set, pay_fails, pay_set, read_set, ready_at, ready_set, streamed_set}
+use Rattle.sasi_ranges.proofs.Filling.{can_at, faults_set, leave_set, pay_fails, pay_set, read_set, ready_at, ready_set, show_set, streamed_set}
 use Rattle.sasi_ranges.proofs.heads.fill_all.Goals as goal
 
 pub loop-head-init : goal.loop-head-init
@@ -13,6 +13,7 @@ loop-head-init g c = record {
   pays = λ most all. (most, all, omega arith);
   read = streams_nothing _ _ _ (g.H.Host.view c.args.host.now) c.requires.read.agrees;
   faults = fails_nothing _ _ (g.H.Host.view c.args.host.now) 0;
+  shows_less = λ files damage is. is;
 }
 
 pub fill-requires-clause-read : goal.fill-requires-clause-read
@@ -81,7 +82,13 @@ loop-head-preserved g c =
       read = streamed_then _ _ _ _ _ _ _ _ (g.H.Host.view c.args.host.now) v w inv.read read;
       faults = faults_ok _ _ _ _ (g.H.Host.view c.args.host.now) w _ 0 (faults_then _ _ _ _ _ (g.H.Host.view c.args.host.now) v w 0 _ (λ lists all. (lists, inv.leaves lists all)) inv.faults
           (faults_set h g.S.TokenStream.shows g.S.TokenStream.leaves v w hs i new _ at same c.in_ok-fill.ensures.faults));
+      shows_less = λ files damage is. inv.shows_less files damage (show_set h g.S.TokenStream.shows files files hs i new damage refl (λ mine. c.fill.ensures.shows_less files damage mine) is);
     }
 
 pub returns-clause-faults : goal.returns-clause-faults
 returns-clause-faults g c = faults_ok _ _ _ _ (g.H.Host.view c.args.host.now) (g.H.Host.view c.loop-head.host) 0 _ c.loop-head.invariant.faults
+
+pub returns-in_err-fill-clause-shows_less : goal.returns-in_err-fill-clause-shows_less
+returns-in_err-fill-clause-shows_less g c files damage is =
+    c.loop-head.invariant.shows_less files damage
+    (show_set c.head-item.result g.S.TokenStream.shows files files c.loop-head.streams c.loop-head.head-index c.fill.new.head damage refl (λ mine. c.fill.ensures.shows_less files damage mine) is)

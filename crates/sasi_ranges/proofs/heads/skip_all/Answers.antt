@@ -1,11 +1,11 @@
-use Rattle.std.proofs.Common.{◌<◌, ◌+◌, ◌≤◌, List, length, subst, arith}
+use Rattle.std.proofs.Common.{◌<◌, ◌+◌, ◌≤◌, List, length, refl, subst, arith}
 use Rattle.std.proofs.lemmas.Result.{err_from_is_err_and}
 use Rattle.sasi_ranges.specs.declared.entry.Entry.{Entry}
 use Rattle.sasi_ranges.specs.Entries.{from_token}
 use Rattle.sasi_ranges.specs.inside.Heads.{AllLeave}
 use Rattle.sasi_ranges.proofs.Least.{leave_length, leave_mapped, mapped_all}
 use Rattle.sasi_ranges.proofs.Calling.{can_still, fails_nothing, faults_handed, faults_ok, faults_then, files_same, spent_err, streamed_then, streams_nothing}
-use Rattle.sasi_ranges.proofs.Filling.{can_at, faults_set, pay_fails, pay_set, ready_at, ready_set, streamed_set}
+use Rattle.sasi_ranges.proofs.Filling.{can_at, faults_set, pay_fails, pay_set, ready_at, ready_set, show_set, streamed_set}
 use Rattle.sasi_ranges.proofs.heads.skip_all.Goals as goal
 
 pub loop-head-init : goal.loop-head-init
@@ -16,6 +16,7 @@ loop-head-init g c = record {
   pays = λ most all. (most, all, omega arith);
   read = streams_nothing _ _ _ (g.H.Host.view c.args.host.now) c.requires.read.agrees;
   faults = fails_nothing _ _ (g.H.Host.view c.args.host.now) 0;
+  shows_less = λ files damage is. is;
 }
 
 pub skip_head-requires-clause-read : goal.skip_head-requires-clause-read
@@ -83,6 +84,7 @@ loop-head-preserved g c =
       read = streamed_then _ _ _ _ _ _ _ _ (g.H.Host.view c.args.host.now) v w inv.read read;
       faults = faults_ok _ _ _ _ (g.H.Host.view c.args.host.now) w _ 0 (faults_then _ _ _ _ _ (g.H.Host.view c.args.host.now) v w 0 _ (λ lists all. (_, inv.leaves lists all)) inv.faults
           (faults_set h g.S.TokenStream.shows g.S.TokenStream.leaves v w hs i new _ at same c.in_ok-skip_head.ensures.faults));
+      shows_less = λ files damage is. inv.shows_less files damage (show_set h g.S.TokenStream.shows files files hs i new damage refl (λ mine. c.skip_head.ensures.shows_less files damage mine) is);
     }
 
 pub returns-clause-faults : goal.returns-clause-faults
@@ -96,3 +98,8 @@ returns-clause-skips g c lists all =
     let size = leave_length leaves (g.H.Host.view c.args.host.now).files c.args.streams.now lists all in
     let done = mapped_all c.loop-head.head-index f lists (omega (arith, size, c.loop-head-test.false, c.loop-head.auto.head-index-end)) in
     subst (λ (k : List (List Entry)). AllLeave leaves files c.loop-head.streams k) done (c.loop-head.invariant.leaves lists all)
+
+pub returns-in_err-skip_head-clause-shows_less : goal.returns-in_err-skip_head-clause-shows_less
+returns-in_err-skip_head-clause-shows_less g c files damage is =
+    c.loop-head.invariant.shows_less files damage
+    (show_set c.head-item.result g.S.TokenStream.shows files files c.loop-head.streams c.loop-head.head-index c.skip_head.new.head damage refl (λ mine. c.skip_head.ensures.shows_less files damage mine) is)

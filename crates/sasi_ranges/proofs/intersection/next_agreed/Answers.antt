@@ -27,6 +27,7 @@ tokens-init g c = record {
   pays = λ most all. (most, all, omega arith);
   read = streams_nothing _ _ _ (g.H.Host.view c.args.host.now) c.requires.read.agrees;
   faults = fails_nothing _ _ (g.H.Host.view c.args.host.now) 0;
+  shows_less = λ files damage is. is;
 }
 
 pub returns-in_err-fill_all-clause-read : goal.returns-in_err-fill_all-clause-read
@@ -109,4 +110,5 @@ tokens-preserved g c =
           (third.0, third.1, omega (arith, first.2, second.2, third.2));
       read = streamed_then _ _ _ _ _ _ _ _ (g.H.Host.view c.args.host.now) v (g.H.Host.view c.skip_all.new.host) (streamed_then _ _ _ _ _ _ _ _ (g.H.Host.view c.args.host.now) (g.H.Host.view c.tokens.host) (g.H.Host.view c.fill_all.new.host) c.tokens.invariant.read c.fill_all.ensures.read) c.skip_all.ensures.read;
       faults = faults_ok _ _ _ _ (g.H.Host.view c.args.host.now) (g.H.Host.view c.skip_all.new.host) _ 0 (faults_then _ _ _ _ _ (g.H.Host.view c.args.host.now) v (g.H.Host.view c.skip_all.new.host) _ _ (λ es is. (let here = c.tokens.invariant.meets es is in (here.0, c.in_ok-fill_all.ensures.leaves here.0 here.1))) (faults_then _ _ _ _ _ (g.H.Host.view c.args.host.now) (g.H.Host.view c.tokens.host) (g.H.Host.view c.fill_all.new.host) 0 _ (λ es is. (let here = c.tokens.invariant.meets es is in (here.0, here.1))) c.tokens.invariant.faults c.in_ok-fill_all.ensures.faults) c.in_ok-skip_all.ensures.faults);
+      shows_less = λ files damage is. inv.shows_less files damage (c.fill_all.ensures.shows_less files damage (c.skip_all.ensures.shows_less files damage is));
     }

@@ -70,3 +70,8 @@ returns-clause-faults g c =
     let kept : streams_of c.take_at.new.streams ≡ streams_of c.next_agreed.new.streams = takes_streams c.in-Some-2.token c.next_agreed.new.streams c.take_at.new.streams c.take_at.result c.take_at.ensures in
     faults_as _ _ _ _ _ (g.H.Host.view c.args.host.now) (g.H.Host.view c.next_agreed.new.host) _ (λ damage is. subst (λ (k : List _). SomeShows g.S.TokenStream.shows (g.H.Host.view c.next_agreed.new.host).files k damage) kept is) (λ es met. (es, met))
     (faults_ok _ _ _ _ (g.H.Host.view c.args.host.now) (g.H.Host.view c.next_agreed.new.host) _ _ (faults_then _ _ _ _ _ (g.H.Host.view c.args.host.now) (g.H.Host.view c.take_current.new.host) (g.H.Host.view c.next_agreed.new.host) _ _ (λ es met. (es, subst (λ (o : Option Entry). TakesCurrent g.S.TokenStream.leaves (g.H.Host.view c.take_current.new.host).files c.take_current.new.streams c.args.relations.now c.args.current.now es o) c.in_default.is (c.in_ok-entry.ensures.takes c.args.relations.now es met))) (faults_as _ _ _ _ (MetLeaves g.S.TokenStream.leaves (g.H.Host.view c.args.host.now).files c.args.streams.now c.args.relations.now c.args.current.now) (g.H.Host.view c.args.host.now) (g.H.Host.view c.take_current.new.host) _ (λ damage is. is) (λ es met. (es, (c.args.relations.now, met))) c.in_ok-entry.ensures.faults) c.in_ok-token.ensures.faults))
+
+pub returns-clause-shows_less : goal.returns-clause-shows_less
+returns-clause-shows_less g c files damage is =
+    let kept : streams_of c.take_at.new.streams ≡ streams_of c.next_agreed.new.streams = takes_streams c.in-Some-2.token c.next_agreed.new.streams c.take_at.new.streams c.take_at.result c.take_at.ensures in
+    c.take_current.ensures.shows_less files damage (c.next_agreed.ensures.shows_less files damage (subst (λ (k : List _). SomeShows g.S.TokenStream.shows files k damage) kept is))

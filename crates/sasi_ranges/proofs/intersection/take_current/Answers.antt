@@ -46,3 +46,8 @@ returns-clause-faults g c =
     let v = g.H.Host.view c.fill_all.new.host in
     faults_ok _ _ _ _ (g.H.Host.view c.args.host.now) v _ _
     (faults_as _ _ _ _ _ (g.H.Host.view c.args.host.now) v _ (λ damage is. subst (λ (k : List _). SomeShows g.S.TokenStream.shows v.files k damage) kept is) (λ lists all. (lists, all)) c.in_ok-fill_all.ensures.faults)
+
+pub returns-clause-shows_less : goal.returns-clause-shows_less
+returns-clause-shows_less g c files damage is =
+    let kept : streams_of c.take_at.new.streams ≡ streams_of c.fill_all.new.streams = takes_streams c.in-Some.token c.fill_all.new.streams c.take_at.new.streams c.take_at.result c.take_at.ensures in
+    c.fill_all.ensures.shows_less files damage (subst (λ (k : List _). SomeShows g.S.TokenStream.shows files k damage) kept is)

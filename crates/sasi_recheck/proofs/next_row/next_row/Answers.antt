@@ -26,6 +26,7 @@ loop-turn-init g c =
       kinds = refl;
       read = streams_nothing _ _ (C.opens c.args.candidates.now) v c.requires.read.agrees;
       faults = λ n. fails_nothing (C.shows c.args.candidates.now v.files) (C.leaves c.args.candidates.now v.files c.args.maps.now) v n;
+      shows_less = λ files damage is. is;
     }
 
 -- ---- a source that fails
@@ -233,6 +234,7 @@ loop-turn-preserved g c =
       kinds = c.answers.ensures.kinds ∙ on.kinds;
       read = streamed_then _ _ _ _ _ _ _ _ u v w on.read c.next.ensures.read;
       faults = λ n. faults_ok _ _ _ _ u w c.in_ok-next.field-0 n (faults_then _ _ _ _ _ u v w 0 _ (λ left is. (let passed = on.passed left is in (passed.rest, passed.others))) (on.faults 0) c.in_ok-next.ensures.faults);
+      shows_less = λ files damage is. on.shows_less files damage (c.next.ensures.shows_less files damage is);
     }
 
 -- ---- more turns than there are

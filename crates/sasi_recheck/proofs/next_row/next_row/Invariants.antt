@@ -1,5 +1,7 @@
-use Rattle.std.proofs.Common.{◌≡◌, ◌+◌, ◌≤◌, ℕ, List, Ok, drop, map, sum, take}
+use Rattle.std.proofs.Common.{◌≡◌, ◌+◌, ◌≤◌, ℕ, List, Option, Ok, drop, map, sum, take}
 use Rattle.sasi_types.specs.declared.column.ColumnType.{ColumnType}
+use Rattle.sasi_host.specs.declared.damage.Damage.{Damage}
+use Rattle.sasi_host.specs.Names.{Folder}
 use Rattle.sasi_model.specs.Filters.{answers, where_of}
 use Rattle.sasi_ranges.specs.StreamCalls.{CanStream, HasStreamed, StreamFaults}
 use Rattle.sasi_recheck.specs.Rows.{counted_on}
@@ -28,4 +30,5 @@ invariant-loop-turn g l =
       kinds : map (λ b. (goal.Analyzer-dyn g (b.vtable, b.value)).kind b.value) l.kit.objects.items ≡ map (λ b. (goal.Analyzer-dyn g (b.vtable, b.value)).kind b.value) l.fn.kit.objects.items;
       read : HasStreamed (g.P.PageReader.agrees l.pages) (g.P.PageReader.covers l.fn.pages) (g.P.PageReader.covers l.pages) (C.opens l.fn.candidates) (C.opens l.candidates) u v;
       faults : (n : ℕ) → StreamFaults (C.shows l.fn.candidates u.files) (C.shows l.candidates v.files) (C.leaves l.fn.candidates u.files l.maps) u v (Ok n);
+      shows_less : (files : Option Folder) (damage : Damage) → C.shows l.candidates files damage → C.shows l.fn.candidates files damage;
     }

@@ -1,4 +1,5 @@
-use Rattle.std.proofs.Common.{List, ℕ, subst}
+use Rattle.std.proofs.Common.{List, ℕ, subst, inl, inr, ⊎_elim}
+use Rattle.sasi_lookup.proofs.Keeping.{same_shows}
 use Rattle.sasi_engine.specs.Plans.{IsOneOf}
 use Rattle.sasi_engine.proofs.HandLaws.{always_ok, both_ok}
 use Rattle.sasi_engine.proofs.StepLaws.{kind_still}
@@ -12,3 +13,7 @@ returns-clause-still_prints g c kind has = always_ok _ c.next_candidate.result (
 
 pub returns-clause-ready : goal.returns-clause-ready
 returns-clause-ready g c = both_ok _ _ c.next_candidate.result c.next_candidate.ensures.hits_ready c.next_candidate.ensures.ready
+
+pub returns-clause-shows_less : goal.returns-clause-shows_less
+returns-clause-shows_less g c files damage is =
+    ⊎_elim (λ hits. inl (c.next_candidate.ensures.hits_show_less files damage hits)) (λ data_files. inr (same_shows _ _ c.next_candidate.ensures.same.files_are files damage data_files)) is

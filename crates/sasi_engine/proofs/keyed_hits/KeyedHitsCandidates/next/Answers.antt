@@ -70,3 +70,7 @@ returns-clause-faults g c =
     let w = g.H.Host.view c.find_candidate.new.host in
     faults_once c.take.new.self c.take.ensures.after s.key c.in-Some.key (sym c.in-Some.ensures.value) (SourceShows (S.shows s.hits u.files) s.hand u.files) (SourceShows (S.shows c.find_candidate.new.hits w.files) c.find_candidate.new.hand w.files) _
     (S.leaves s.hits u.files) s.hand u.files c.args.maps.now u w c.find_candidate.result c.find_candidate.ensures.faults
+
+pub returns-clause-shows_less : goal.returns-clause-shows_less
+returns-clause-shows_less g c files damage is =
+    absurd (none_now c.take.new.self c.take.ensures.after (SourceShows (g.S.TokenStream.shows c.find_candidate.new.hits files) c.find_candidate.new.hand files damage) is)

@@ -88,3 +88,15 @@ returns-in-Map-clause-read g c =
 pub returns-in-Map-clause-faults : goal.returns-in-Map-clause-faults
 returns-in-Map-clause-faults g c =
     subst (λ (s : Hits). StreamFaults (Shows s (g.H.Host.view c.args.host.now).files) (Shows (Map c.skip_to-in-Map.new.self) (g.H.Host.view c.skip_to-in-Map.new.host).files) (Leaves s (g.H.Host.view c.args.host.now).files) (g.H.Host.view c.args.host.now) (g.H.Host.view c.skip_to-in-Map.new.host) c.skip_to-in-Map.result) (sym c.in-Map.is) c.skip_to-in-Map.ensures.faults
+
+pub returns-in-Index-clause-shows_less : goal.returns-in-Index-clause-shows_less
+returns-in-Index-clause-shows_less g c files damage is =
+    subst (λ (s : Hits). Shows s files damage) (sym c.in-Index.is) (c.skip_to.ensures.shows_less files damage is)
+
+pub returns-in-Keys-clause-shows_less : goal.returns-in-Keys-clause-shows_less
+returns-in-Keys-clause-shows_less g c files damage is =
+    subst (λ (s : Hits). Shows s files damage) (sym c.in-Keys.is) (c.skip_to-in-Keys.ensures.shows_less files damage is)
+
+pub returns-in-Map-clause-shows_less : goal.returns-in-Map-clause-shows_less
+returns-in-Map-clause-shows_less g c files damage is =
+    subst (λ (s : Hits). Shows s files damage) (sym c.in-Map.is) (c.skip_to-in-Map.ensures.shows_less files damage is)

@@ -79,3 +79,13 @@ returns-clause-faults g c =
       undamaged = on_err _ _ c.next_since.result (λ damage none left is. none left (c.in_ok-begin_pending.ensures.leaves (g.H.Host.view c.args.host.now).files left (over_parts _ (λ (vs : List view.Part) (p : Pending). PendingLeaves p.source p.types vs (g.H.Host.view c.args.host.now).files c.args.maps.now left) c.args.self.now.pending c.args.self.now.view c.as_slice-parts.result.now (sym (c.as_slice-parts.ensures ∙ c.parts.ensures)) is))) one.undamaged;
       shows = λ damage shows. over_parts _ (λ (vs : List view.Part) (p : Pending). PendingShows p.types vs (g.H.Host.view c.args.host.now).files damage) c.args.self.now.pending c.as_slice-parts.result.now c.args.self.now.view (c.as_slice-parts.ensures ∙ c.parts.ensures) (c.begin_pending.ensures.shows (g.H.Host.view c.args.host.now).files damage (one.shows damage (if_begun _ _ c.begin_pending.new.pending c.begin_pending.ensures.begun shows)));
     }
+
+pub returns-in_err-begin_pending-clause-shows_less : goal.returns-in_err-begin_pending-clause-shows_less
+returns-in_err-begin_pending-clause-shows_less g c files damage shows =
+    over_parts _ (λ (vs : List view.Part) (p : Pending). PendingShows p.types vs files damage) c.args.self.now.pending c.as_slice-parts.result.now c.args.self.now.view (c.as_slice-parts.ensures ∙ c.parts.ensures)
+    (c.begin_pending.ensures.shows files damage (if_begun _ _ c.begin_pending.new.pending c.begin_pending.ensures.begun shows))
+
+pub returns-clause-shows_less : goal.returns-clause-shows_less
+returns-clause-shows_less g c files damage shows =
+    over_parts _ (λ (vs : List view.Part) (p : Pending). PendingShows p.types vs files damage) c.args.self.now.pending c.as_slice-parts.result.now c.args.self.now.view (c.as_slice-parts.ensures ∙ c.parts.ensures)
+    (c.begin_pending.ensures.shows files damage (c.next_since.ensures.shows_less files damage (if_begun _ _ c.begin_pending.new.pending c.begin_pending.ensures.begun shows)))

@@ -56,3 +56,10 @@ returns-clause-faults g c =
     faults_as _ _ _ _ _ u v c.next_met.result (λ damage is. is) (λ es left. (es, left.0))
     (subst (λ (k : List _). StreamFaults (HeadsShow g.S.TokenStream.shows u.files c.args.self.now.streams.items) (HeadsShow g.S.TokenStream.shows v.files k) (MetLeaves g.S.TokenStream.leaves u.files c.args.self.now.streams.items c.args.self.now.relations c.args.self.now.current) u v c.next_met.result) (sym back)
     (subst (λ (k : List _). StreamFaults (HeadsShow g.S.TokenStream.shows u.files k) (HeadsShow g.S.TokenStream.shows v.files c.next_met.new.streams) (MetLeaves g.S.TokenStream.leaves u.files k c.args.self.now.relations c.args.self.now.current) u v c.next_met.result) c.deref_mut.ensures.value c.next_met.ensures.faults))
+
+pub returns-clause-shows_less : goal.returns-clause-shows_less
+returns-clause-shows_less g c files damage is =
+    let back : (with_items c.args.self.now.streams c.next_met.new.streams).items ≡ c.next_met.new.streams = with_items_is c.args.self.now.streams c.next_met.new.streams (omega (arith, c.next_met.auto.streams, c.deref_mut.ensures.len)) in
+    let shows = g.S.TokenStream.shows in
+    subst (λ (k : List _). HeadsShow shows files k damage) c.deref_mut.ensures.value
+    (c.next_met.ensures.shows_less files damage (subst (λ (k : List _). HeadsShow shows files k damage) back is))

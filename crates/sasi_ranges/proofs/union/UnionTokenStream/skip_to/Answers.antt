@@ -69,3 +69,10 @@ returns-clause-faults g c =
     faults_as _ _ _ _ _ u v c.skip_all.result (λ damage is. is) (λ es left. (left.0.0, left.0.1))
     (subst (λ (k : List _). StreamFaults (HeadsShow shows u.files items) (HeadsShow shows v.files k) (AllLeave leaves u.files items) u v c.skip_all.result) (sym back)
     (subst (λ (k : List _). StreamFaults (HeadsShow shows u.files k) (HeadsShow shows v.files c.skip_all.new.streams) (AllLeave leaves u.files k) u v c.skip_all.result) c.deref_mut.ensures.value c.skip_all.ensures.faults))
+
+pub returns-clause-shows_less : goal.returns-clause-shows_less
+returns-clause-shows_less g c files damage is =
+    let back : (with_items c.args.self.now.streams c.skip_all.new.streams).items ≡ c.skip_all.new.streams = with_items_is c.args.self.now.streams c.skip_all.new.streams (omega (arith, c.skip_all.auto.streams, c.deref_mut.ensures.len)) in
+    let shows = g.S.TokenStream.shows in
+    subst (λ (k : List _). HeadsShow shows files k damage) c.deref_mut.ensures.value
+    (c.skip_all.ensures.shows_less files damage (subst (λ (k : List _). HeadsShow shows files k damage) back is))
