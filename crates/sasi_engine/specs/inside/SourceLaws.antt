@@ -1,5 +1,5 @@
 -- What is known of a source of candidates stays while the files and the maps that it looks at are unchanged.
-use Rattle.std.proofs.Common.{◌≡◌, ℕ, List, [], ◌∷◌, ◌++◌, Option, None, Some, IfSome, refl, ap₂, subst, sym, ◌∙◌, inl, inr}
+use Rattle.std.proofs.Common.{◌≡◌, ℕ, List, [], ◌∷◌, Option, None, Some, IfSome, refl, ap₂, subst, sym, ◌∙◌, inl, inr}
 use Rattle.std.specs.FinMap.{empty, get}
 use Rattle.std.specs.Option.{IsSomeAnd, option_map_or}
 use Rattle.sasi_types.specs.declared.column.ColumnType.{ColumnType}
@@ -16,13 +16,14 @@ use Rattle.sasi_lookup.specs.Lookups.{Opens}
 use Rattle.sasi_lookup.proofs.Keeping.{lookup_keeps}
 use Rattle.sasi_recheck.specs.Sources.{Candidate}
 use Rattle.sasi_sources.specs.KeyCandidates.{HasKeyType}
+use Rattle.sasi_sources.specs.inside.KeyLaws.{views_stay}
 use Rattle.sasi_engine.specs.declared.hand.Hand.{Hand}
 use Rattle.sasi_engine.specs.HitCandidates.{IsLeft, PlanWorld}
-use Rattle.sasi_engine.specs.Plans.{IsOneOf}
+use Rattle.sasi_sources.specs.Maps.{IsOneOf}
 use Rattle.sasi_engine.specs.TokenHits.{contents_in_files, maps_numbered}
 use Rattle.sasi_engine.specs.inside.KeyedSteps.{IsKeyLeft, KeyLeaves, KeyOwes}
 use Rattle.sasi_engine.specs.inside.Steps.{IsHandReady, SourceLeaves, SourceOpens, SourceOwes}
-use Rattle.sasi_engine.specs.TokenHits.{views_numbered}
+use Rattle.sasi_scan.specs.Numbered.{views_numbered}
 
 -- ---- maps
 
@@ -30,11 +31,6 @@ pub maps_stay : (was now : Book) (numbers : List ℕ) → ((number : ℕ) → Is
 maps_stay was now [] same = refl
 maps_stay was now (n ∷ ns) same =
     ap₂ (λ (o : Option MapPart) (ms : List Partitions). option_map_or (λ (m : MapPart). m.map.partitions) o empty ∷ ms) (same n (inl refl)) (maps_stay was now ns (λ number is. same number (inr is)))
-
-pub views_stay : (was now : Book) (numbers : List ℕ) → ((number : ℕ) → IsOneOf numbers number → get now number ≡ get was number) → views_numbered now numbers ≡ views_numbered was numbers
-views_stay was now [] same = refl
-views_stay was now (n ∷ ns) same =
-    ap₂ (λ (o : Option MapPart) (ms : List MemtableView). option_map_or (λ (part : MapPart). part.map ∷ []) o [] ++ ms) (same n (inl refl)) (views_stay was now ns (λ number is. same number (inr is)))
 
 -- ---- a source
 

@@ -1,5 +1,5 @@
 use Rattle.std.proofs.Common.{List, ℕ, subst}
-use Rattle.sasi_engine.specs.Plans.{IsOneOf}
+use Rattle.sasi_sources.specs.Maps.{IsOneOf}
 use Rattle.sasi_engine.proofs.HandLaws.{always_ok, both_ok}
 use Rattle.sasi_engine.proofs.StepLaws.{kind_still}
 use Rattle.sasi_engine.proofs.hit_candidates.HitCandidatesCandidates.next.Goals as goal
