@@ -3,13 +3,13 @@ use Rattle.std.proofs.Common.{◌≡◌, Bool, inl, drop, is_some, ℕ, zero, su
 use Rattle.std.specs.Prelude.{max}
 use Rattle.std.specs.FinMap as fin
 use Rattle.std.specs.Option.{option_map, option_map_or}
-use Rattle.std.proofs.lemmas.List.{length-map}
+use Rattle.std.proofs.lemmas.List.{append-nil, length-map}
 use Rattle.sasi_types.specs.declared.partitioner.Partitioner.{Partitioner}
 use Rattle.sasi_types.specs.declared.partitioner.Partitioner.TheVariants.{Lead8}
 use Rattle.sasi_types.specs.declared.index_def.IndexDef.{IndexDef}
 use Rattle.sasi_types.specs.declared.statement.Select.{Select}
 use Rattle.sasi_types.specs.declared.statement.Statement.{Statement}
-use Rattle.sasi_types.specs.declared.statement.Statement.TheVariants.{CreateTable, CreateIndex, Flush, Query, Trace}
+use Rattle.sasi_types.specs.declared.statement.Statement.TheVariants.{CreateTable, CreateIndex, Flush, Query, ShowFiles, Trace}
 use Rattle.sasi_cells.proofs.Laws.Times.{body_limit}
 use Rattle.sasi_cells.specs.Rows.{IsStored}
 use Rattle.sasi_model.specs.Asked as ask
@@ -36,14 +36,14 @@ use Rattle.sasi_schema.specs.declared.index.NewIndex.{NewIndex}
 use Rattle.sasi_schema.specs.declared.table.Table.{Table}
 use Rattle.sasi_machine.specs.declared.outcome.Outcome.{Outcome}
 use Rattle.sasi_machine.specs.declared.prepared.Prepared.{Prepared}
-use Rattle.sasi_machine.specs.declared.prepared.Prepared.TheVariants.{Answered, Create, Define, Write as Writes, Flush as Flushes, Select as Selects, Trace as Traces}
+use Rattle.sasi_machine.specs.declared.prepared.Prepared.TheVariants.{Answered, Create, Define, Write as Writes, Flush as Flushes, Select as Selects, Trace as Traces, Files as ListsFiles}
 use Rattle.sasi_machine.specs.declared.prepared.Selection.{Selection}
 use Rattle.sasi_cells.specs.declared.mutation.Mutation.{Mutation}
 use Rattle.sasi_memtable.specs.MemtableView.{MemtableView, empty_memtable}
 use Rattle.sasi_machine.specs.Outcome.{outcome_of}
 use Rattle.sasi_machine.specs.Operands.{CanSelect}
 use Rattle.sasi_cells.specs.Mutations.{state_with_mutation}
-use Rattle.sasi_machine.specs.Prepares.{CanBeDone, CreatesTable, DefinesIndex, FlushesTable, HasRows, HasTable, IsAddable, IsApplicable, IsNewTable, IsPrepared, IsPreparedFor, IsQuery, IsSelect, IsStateOf, IsTimeless, Prepares, StatementPrepares, SelectsRows, StepsTo, WritesTo, answer_rows, asked_by}
+use Rattle.sasi_machine.specs.Prepares.{AsksFiles, CanBeDone, CreatesTable, DefinesIndex, FlushesTable, HasRows, HasTable, IsAddable, IsApplicable, IsListing, IsNewTable, IsPrepared, IsPreparedFor, IsQuery, IsSelect, IsShowFiles, IsStateOf, IsTimeless, Prepares, StatementPrepares, SelectsRows, StepsTo, WritesTo, answer_rows, asked_by}
 use Rattle.sasi_machine.specs.Selections.{PreparesRows}
 use Rattle.sasi_machine.specs.TableRows.{AreStored}
 use Rattle.sasi_machine.specs.Tables.{AreMemtables, IsMachineState, HasMemtableFor, IsWrittenAt, state_of, tables_of, written}
@@ -148,6 +148,14 @@ trace_asks known on reply_old reply_new reply_is = record {
   of_state = λ s of. (takes s (Trace on) s reply_old reply_new (outcome_of None) (not_refused s known (Trace on) of refl) refl reply_is refl, (not_refused s known (Trace on) of refl, refl));
 }
 
+-- ---- SHOW FILES
+
+pub files_asks : (known : Known) (reply : List ℕ) → IsPrepared known ShowFiles reply reply ListsFiles
+files_asks known reply = record {
+  asked_is = refl;
+  of_state = λ s of. (takes s ShowFiles s reply reply (outcome_of None) (not_refused s known ShowFiles of refl) refl (sym (append-nil reply)) refl, not_refused s known ShowFiles of refl);
+}
+
 -- ---- SELECT
 
 first_is : (rules : List RefusalRule) → IsFirstRefusal (first_refusal rules) rules
@@ -175,6 +183,7 @@ select_asks known select found reply_old reply_new (Answered outcome) written de
     let refused = first_refusal (select_rules select (option_map definition found)) in
     refuses known (Query select) refused reply_old reply_new outcome (subst (λ (o : Option Definition). IsFirstRefusal refused (select_rules select o)) defined (first_is (select_rules select (option_map definition found)))) prepares
 select_asks known select found reply_old reply_new (Traces on) written defined numbered prepares = absurd prepares
+select_asks known select found reply_old reply_new ListsFiles written defined numbered prepares = absurd prepares
 select_asks known select None reply_old reply_new (Selects rows) written defined numbered prepares = absurd prepares.2
 select_asks known select (Some t) reply_old reply_new (Selects rows) written defined numbered prepares =
     let none : first_refusal (rules known (Query select)) ≡ None = subst (λ (o : Option Definition). first_refusal (select_rules select o) ≡ None) defined prepares.0 in
@@ -334,6 +343,11 @@ rows_there : (s : State) (statement : Statement) (rows : Selection) → SelectsR
 rows_there s (Query select) rows selects = selects.has
 rows_there s statement rows selects = absurd selects
 
+-- the lines of files come later
+no_answer : (s : State) (statement : Statement) → AsksFiles s statement → (step_as s (Says statement)).reply ≡ []
+no_answer s ShowFiles asks = rw asks refl
+no_answer s statement asks = absurd asks
+
 flush_there : (s : State) (statement : Statement) (table : ℕ) → FlushesTable s statement table → HasTable s table
 flush_there s (Flush name) table flushes = flushes.2
 flush_there s statement table flushes = absurd flushes
@@ -357,6 +371,11 @@ prepares s piece statement reply_old reply (Selects rows) says well empty asks =
     (steps s piece statement s [] (answer_rows s rows) (outcome_of None) says refl (rows_step s statement rows asks.1), asks.0 ∙ empty, rows_there s statement rows asks.1, (statement, says, well, asks.1))
 prepares s piece statement reply_old reply (Traces on) says well empty asks =
     (steps s piece statement s reply_old reply (outcome_of None) says empty asks.0, (statement, says, well, asks.1))
+prepares s piece statement reply_old reply ListsFiles says well empty asks = (
+  steps s piece statement s reply_old reply (outcome_of None) says empty asks.0,
+  asks.0.reply_is ∙ ap (λ (front : List ℕ). front ++ (step_as s (Says statement)).reply) empty ∙ no_answer s statement asks.1,
+  (statement, says, well, asks.1),
+)
 
 pub piece_prepares : {E : Type 0} (known : Known) (piece : Piece) (statement : Statement) (reply_old reply : List ℕ) (result : Result Prepared E) → read piece ≡ Says statement → IsWellFormed statement → reply_old ≡ []
     → IfOk result (IsPreparedFor known statement reply_old reply) → IfOk result (λ prepared. (s : State) → IsStateOf known s → Prepares s piece reply prepared)
@@ -386,6 +405,7 @@ prepared_can s statement reply_old reply (Writes w) well asks = writes_fit s sta
 prepared_can s statement reply_old reply (Flushes table) well asks = flush_there s statement table asks.1
 prepared_can s statement reply_old reply (Selects rows) well asks = tt
 prepared_can s statement reply_old reply (Traces on) well asks = tt
+prepared_can s statement reply_old reply ListsFiles well asks = tt
 
 pub can_be_done : {E : Type 0} (known : Known) (statement : Statement) (reply_old reply : List ℕ) (result : Result Prepared E) → IsWellFormed statement
     → IfOk result (IsPreparedFor known statement reply_old reply) → IfOk result (λ prepared. (s : State) → IsStateOf known s → CanBeDone s prepared)
@@ -429,8 +449,30 @@ query_of known statement reply_old reply (Define new) asks select = absurd selec
 query_of known statement reply_old reply (Writes w) asks select = absurd select
 query_of known statement reply_old reply (Flushes table) asks select = absurd select
 query_of known statement reply_old reply (Traces on) asks select = absurd select
+query_of known statement reply_old reply ListsFiles asks select = absurd select
 
 pub piece_selects : {E : Type 0} (known : Known) (piece : Piece) (statement : Statement) (reply_old reply : List ℕ) (result : Result Prepared E) → read piece ≡ Says statement
     → IfOk result (IsPreparedFor known statement reply_old reply) → IfOk result (λ prepared. IsSelect prepared → IsQuery (read piece))
 piece_selects known piece statement reply_old reply (Ok prepared) says asks = λ select. subst IsQuery (sym says) (query_of known statement reply_old reply prepared asks select)
 piece_selects known piece statement reply_old reply (Err e) says asks = tt
+
+files_listed : (s : State) (statement : Statement) → AsksFiles s statement → IsShowFiles (Says statement)
+files_listed s ShowFiles asks = tt
+files_listed s statement asks = absurd asks
+
+listing_of : (known : Known) (statement : Statement) (reply_old reply : List ℕ) (prepared : Prepared) → IsPreparedFor known statement reply_old reply prepared → IsListing prepared → IsShowFiles (Says statement)
+listing_of known statement reply_old reply ListsFiles asks lists =
+    let s : State = record { partitioner = Lead8; tables = map empty_table known.tables } in
+    files_listed s statement ((asks.timeless tt (max_timestamp s)).of_state s (knows (record known { max_timestamp = max_timestamp s }) s (empty_definitions known.tables) refl)).1
+listing_of known statement reply_old reply (Answered outcome) asks lists = absurd lists
+listing_of known statement reply_old reply (Create t) asks lists = absurd lists
+listing_of known statement reply_old reply (Define new) asks lists = absurd lists
+listing_of known statement reply_old reply (Writes w) asks lists = absurd lists
+listing_of known statement reply_old reply (Flushes table) asks lists = absurd lists
+listing_of known statement reply_old reply (Selects rows) asks lists = absurd lists
+listing_of known statement reply_old reply (Traces on) asks lists = absurd lists
+
+pub piece_lists : {E : Type 0} (known : Known) (piece : Piece) (statement : Statement) (reply_old reply : List ℕ) (result : Result Prepared E) → read piece ≡ Says statement
+    → IfOk result (IsPreparedFor known statement reply_old reply) → IfOk result (λ prepared. IsListing prepared → IsShowFiles (read piece))
+piece_lists known piece statement reply_old reply (Ok prepared) says asks = λ lists. subst IsShowFiles (sym says) (listing_of known statement reply_old reply prepared asks lists)
+piece_lists known piece statement reply_old reply (Err e) says asks = tt

@@ -122,7 +122,7 @@ impl Machine {
                 self.apply(mutation)?;
                 Ok(Outcome::Done)
             }
-            Prepared::Flush(_) | Prepared::Trace(_) => Ok(Outcome::Done),
+            Prepared::Flush(_) | Prepared::Trace(_) | Prepared::Files => Ok(Outcome::Done),
             Prepared::Select(rows) => {
                 self.print(&rows, kit, reply)?;
                 Ok(Outcome::Done)

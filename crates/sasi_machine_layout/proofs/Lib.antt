@@ -10,3 +10,4 @@ mod AnsweredChecks
 mod MovesMade
 mod KeptContents
 mod DefinedContents
+mod FileLines

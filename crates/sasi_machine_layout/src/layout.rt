@@ -1,17 +1,23 @@
 // Layouts.
-ghost use Rattle.std.specs.Prelude.{◌≡◌, map, IfErr, IfOk, OnErr, OnOk};
+ghost use Rattle.std.specs.Prelude.{◌≡◌, ◌++◌, map, IfErr, IfOk, OnErr, OnOk};
+ghost use Rattle.sasi_layout.specs.FileNames.{file_names};
 ghost use Rattle.sasi_layout.specs.Moves.{after_moves};
 ghost use Rattle.sasi_layout.specs.Shape.{new_layout};
 ghost use Rattle.sasi_layout.specs.Statements.{definitions_of};
 ghost use Rattle.sasi_machine.specs.Classes.{OnMissing, TablesLack};
+ghost use Rattle.sasi_model.specs.Lines.{files_lines};
 ghost use Rattle.sasi_model.specs.WellFormed.{IsWellFormed, IsWellFormedSelect};
+ghost use Rattle.sasi_print.specs.Files.{file_text};
+ghost use Rattle.sasi_print.specs.declared.file_lines.FileState.TheVariants.{Current};
 ghost use Rattle.sasi_machine_layout.specs.Checks.{answered_checks};
 ghost use Rattle.sasi_machine_layout.specs.Steps.{IsMadeInPart, statement_moves};
 
 use crate::candidates::candidates;
 use crate::contents::Contents;
+use crate::files::files;
 use crate::moves::step;
 use sasi_analyzers::Kit;
+use sasi_machine::Reply;
 use sasi_schema::Schema;
 use sasi_types::{KitFault, Partitioner, Select, Statement};
 use std::alloc::{AllocError, Global};
@@ -79,5 +85,12 @@ impl Layout {
         ensures kinds { map (λ b. kind (b.vtable, b.value)) kit.new.objects.items ≡ map (λ b. kind (b.vtable, b.value)) kit.old.objects.items }
     {
         candidates(&self.contents, kit, select)
+    }
+
+    /// Adds the lines of SHOW FILES: one for each data file and index file, by number, and the number of them.
+    pub fn files(&self, reply: &mut Reply) -> Result<(), AllocError>
+        ensures { OnOk result (reply.new ≡ reply.old ++ files_lines (map (λ name. file_text name Current 0) (file_names self.now))) }
+    {
+        files(&self.contents, reply)
     }
 }

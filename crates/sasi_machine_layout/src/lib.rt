@@ -1,5 +1,6 @@
 //! What a store holds part by part, in memory alone: a second and plain way to reckon how many candidates a SELECT checks, by loops
-//! over maps and keys. Only tests call it. It stands on sasi_machine, and promises the layouts and the counts of the definitions.
+//! over maps and keys, and which files SHOW FILES tells. Only tests call it. It stands on sasi_machine, and promises the layouts, the
+//! counts and the lines of the definitions.
 #![tactic(auto)]
 
 mod candidates;
@@ -8,6 +9,7 @@ mod count;
 mod create;
 mod define;
 mod draws;
+mod files;
 mod flush;
 mod hits;
 mod layout;

@@ -1,7 +1,8 @@
-// Counts of candidates, beside those of runs.
+// Counts of candidates and lines of files, beside those of runs.
 use sasi_analyzers::{Analyzer, Kit, Whole, Words};
 use sasi_cql::parse;
 use sasi_host::{MemHost, MemSource};
+use sasi_machine::Reply;
 use sasi_machine_layout::Layout;
 use sasi_run::run;
 use sasi_types::{Partitioner, Statement};
@@ -41,11 +42,16 @@ fn emitted(rt: &impl Abort, alloc: Global, script: &str) -> Vec<u8> {
     host.emitted().to_vec(alloc).expect(rt, "memory")
 }
 
-/// The counts that the lines tell.
+/// The line tells a count, a file or how many files there are.
+fn is_told(line: &str) -> bool {
+    line.starts_with("checked ") || line.contains(" pinned ") || line.ends_with(" files)")
+}
+
+/// The counts and the files that the lines tell.
 fn told(rt: &impl Abort, alloc: Global, lines: &str) -> String {
     let mut told = String::new(alloc);
     for line in lines.lines() {
-        if line.starts_with("checked ") {
+        if is_told(line) {
             told.push_str(line).expect(rt, "memory");
             told.push_str("\n").expect(rt, "memory");
         }
@@ -53,7 +59,15 @@ fn told(rt: &impl Abort, alloc: Global, lines: &str) -> String {
     told
 }
 
-/// The counts of the layouts that the statements make.
+/// Adds the lines of a layout's files.
+fn add_files(rt: &impl Abort, alloc: Global, layout: &Layout, lines: &mut String) {
+    let mut reply = Reply::new(alloc);
+    layout.files(&mut reply).expect(rt, "memory");
+    let files = str::from_utf8(reply.bytes()).expect(rt, "text");
+    lines.push_str(files).expect(rt, "memory");
+}
+
+/// The counts and the files of the layouts that the statements make.
 fn counted(rt: &impl Abort, alloc: Global, script: &str) -> String {
     let mut counted = String::new(alloc);
     let mut kit = Kit::new(analyzers(rt, alloc));
@@ -65,6 +79,7 @@ fn counted(rt: &impl Abort, alloc: Global, script: &str) -> String {
                 let line = format!(in alloc; "checked {count}\n").expect(rt, "memory");
                 counted.push_str(&line).expect(rt, "memory");
             }
+            Ok(Statement::ShowFiles) => add_files(rt, alloc, &layout, &mut counted),
             Ok(statement) => layout.step(statement).expect(rt, "memory"),
             Err(_) => (),
         }
@@ -72,7 +87,7 @@ fn counted(rt: &impl Abort, alloc: Global, script: &str) -> String {
     counted
 }
 
-/// The layouts count what a run tells.
+/// The layouts count and list what a run tells.
 fn check(rt: &impl Abort, alloc: Global, script: &str) {
     let bytes = emitted(rt, alloc, script);
     let lines = str::from_utf8(&bytes).expect(rt, "text");
@@ -95,6 +110,19 @@ TRACE ON; CREATE TABLE t (k int PRIMARY KEY, n bigint); CREATE CUSTOM INDEX ON t
 #[test]
 fn layouts_count_the_candidates_that_a_run_tells(rt: HostRuntime) {
     for script in SCRIPTS.lines() {
+        check(&rt, rt.alloc(), script);
+    }
+}
+
+/// Scripts that show their files, one a line: of an empty folder, of a table without indexes, and of two tables with two indexes each, whose
+/// flushes alternate.
+static LISTINGS: &str =
+    "SHOW FILES; CREATE TABLE t (k text PRIMARY KEY, a text); FLUSH t; SHOW FILES; INSERT INTO t (k, a) VALUES ('k1', 'x'); SHOW FILES; FLUSH t; SHOW FILES; FLUSH t; INSERT INTO t (k, a) VALUES ('k2', 'x'); FLUSH t; SHOW FILES;
+CREATE TABLE t (k text PRIMARY KEY, a text, b int); CREATE TABLE u (k int PRIMARY KEY, a text, b int); CREATE CUSTOM INDEX ta ON t (a) USING 'org.apache.cassandra.index.sasi.SASIIndex'; CREATE CUSTOM INDEX ua ON u (a) USING 'org.apache.cassandra.index.sasi.SASIIndex'; CREATE CUSTOM INDEX ub ON u (b) USING 'org.apache.cassandra.index.sasi.SASIIndex'; CREATE CUSTOM INDEX tb ON t (b) USING 'org.apache.cassandra.index.sasi.SASIIndex'; INSERT INTO u (k, a, b) VALUES (1, 'x', 1); INSERT INTO t (k, a, b) VALUES ('k1', 'x', 1); FLUSH u; SHOW FILES; FLUSH t; SHOW FILES; INSERT INTO t (k, a) VALUES ('k2', 'y'); FLUSH t; INSERT INTO u (k, b) VALUES (2, 2); FLUSH u; SHOW FILES; DELETE FROM t WHERE k = 'k1'; FLUSH t; SHOW FILES;";
+
+#[test]
+fn layouts_list_the_files_that_a_run_shows(rt: HostRuntime) {
+    for script in LISTINGS.lines() {
         check(&rt, rt.alloc(), script);
     }
 }

@@ -8,6 +8,7 @@ use crate::values::push_number;
 use sasi_host::FileName;
 use sasi_names::NameText;
 use std::alloc::AllocError;
+use std::io::Write;
 
 /// Where a data or index file stands.
 #[derive(Clone, Copy, Debug)]
@@ -42,8 +43,11 @@ pub fn file_line(
 ) -> Result<(), AllocError>
     ensures ok { OnOk result (reply.new ≡ reply.old ++ line (file_text file state pinned)) }
 {
-    writeln!(reply.bytes, "{} {} pinned {pinned}", NameText(file), state.word())?;
-    Ok(())
+    let (name, state) = (NameText(file), state.word());
+    match writeln!(reply.bytes, "{name} {state} pinned {pinned}") {
+        Ok(()) => Ok(()),
+        Err(_) => Err(AllocError),
+    }
 }
 
 /// Adds the line with the number of files.

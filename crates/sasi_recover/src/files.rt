@@ -1,14 +1,14 @@
 // The files that a listing has, by their names.
-ghost use Rattle.std.specs.Prelude.{◌≡◌, ◌+◌, ◌*◌, ◌++◌, IfOk, OnOk, map};
-ghost use Rattle.std.specs.List.{flat_map};
-ghost use Rattle.sasi_manifest.specs.FileNames.{file_names, largest_part};
-ghost use Rattle.sasi_manifest.specs.ListedFiles.{index_name, largest_of_files, largest_of_parts, names_of};
+ghost use Rattle.std.specs.Prelude.{◌≡◌, ◌+◌, ◌*◌, IfOk, map};
+ghost use Rattle.sasi_manifest.specs.FileNames.{largest_part};
+ghost use Rattle.sasi_manifest.specs.ListedFiles.{largest_of_files, largest_of_parts};
 ghost use Rattle.sasi_manifest.specs.ListedTables.{listed};
 ghost use Rattle.sasi_layout.specs.Layout.{largest_data, largest_file};
 ghost use Rattle.sasi_recover.specs.OpeningReads.{data_count, ends_reads, index_count};
 ghost use Rattle.sasi_recover.specs.SealedFolder.{AreListedFiles};
 
 use sasi_host::{DataNumber, FileName};
+use sasi_listing::push_tables;
 use sasi_manifest::{ListedFile, ListedTable, Listing, PartNumber};
 use std::alloc::{AllocError, Global};
 
@@ -18,44 +18,9 @@ pub fn sorted_names(alloc: Global, listing: &Listing) -> Result<Vec<FileName>, A
     ensures reads { IfOk result (λ names. ends_reads names.items ≡ 2 * data_count listing.now.tables + 3 * index_count listing.now.tables) }
 {
     let mut names = Vec::new(alloc);
-    push_all(&mut names, listing.tables.as_slice())?;
+    push_tables(&mut names, listing.tables.as_slice())?;
     names.sort_unstable();
     Ok(names)
-}
-
-// Adds the names of the tables' files.
-fn push_all(names: &mut Vec<FileName>, tables: &[ListedTable]) -> Result<(), AllocError>
-    ensures { OnOk result (names.new.items ≡ names.old.items ++ file_names (map listed tables.now)) }
-{
-    for table in tables {
-        push_files(names, table.files.as_slice())?;
-    }
-    Ok(())
-}
-
-// Adds the names of data files and of the index files that go with them.
-fn push_files(names: &mut Vec<FileName>, files: &[ListedFile]) -> Result<(), AllocError>
-    ensures { OnOk result (names.new.items ≡ names.old.items ++ flat_map names_of files.now) }
-{
-    for file in files {
-        names.push(FileName::data(file.number))?;
-        push_parts(names, file.number, file.parts.as_slice())?;
-    }
-    Ok(())
-}
-
-// Adds the names of the index files that go with the data file of this number.
-fn push_parts(
-    names: &mut Vec<FileName>,
-    number: DataNumber,
-    parts: &[PartNumber],
-) -> Result<(), AllocError>
-    ensures { OnOk result (names.new.items ≡ names.old.items ++ map (index_name number) parts.now) }
-{
-    for part in parts {
-        names.push(part.file_name(number))?;
-    }
-    Ok(())
 }
 
 /// The largest number of a listed data file; 0 where there is none.

@@ -30,13 +30,13 @@ use Rattle.sasi_store.specs.StoreView.{IsReady, StoreView}
 use Rattle.sasi_store.specs.declared.fault.StepFault.{StepFault}
 use Rattle.sasi_store.specs.declared.fault.StepFault.TheVariants as fault
 use Rattle.sasi_run.specs.EmitCounts.{emits_of}
-use Rattle.sasi_run.specs.Crashing.{AnswersCrashSafe, CrashLeavesPieces, EmittedButRows, FailsCrashSafe, FeedsCrashSafe, FinishesCrashSafe, IsOfState, LacksAtStop, RanPieces, StoppedPieces, StopsCrashSafe}
+use Rattle.sasi_run.specs.Crashing.{AnswersCrashSafe, CrashLeavesPieces, EmittedButStored, FailsCrashSafe, FeedsCrashSafe, FinishesCrashSafe, IsOfState, LacksAtStop, RanPieces, StoppedPieces, StopsCrashSafe}
 use Rattle.sasi_run.specs.FileCalls.{emits_after}
 use Rattle.sasi_run.specs.Session.{counted_outcome, refusals_of, stop_of}
 use Rattle.sasi_run.specs.declared.session.Session.{Session}
 use Rattle.sasi_run.specs.declared.session.Stop.{Stop}
 use Rattle.sasi_run.specs.declared.session.Stop.TheVariants.{Memory, Output}
-use Rattle.sasi_run.proofs.ButRows.{ran_both_but, ran_from_but, ran_nothing_but, stopped_behind_but}
+use Rattle.sasi_run.proofs.ButStored.{ran_both_but, ran_from_but, ran_nothing_but, stopped_behind_but}
 use Rattle.sasi_run.proofs.Running.{each_of_shape, leaves_answered, leaves_moved, leaves_nothing, ready_still, serves_still}
 use Rattle.sasi_run.proofs.EmitLaws.{emits_reply, makes_alone, makes_behind_none, makes_none, makes_one, makes_reply}
 use Rattle.sasi_run.proofs.RunParts.{appends_none, ran_both, ran_nothing, reads_on, stopped_behind, unmoved}
@@ -96,7 +96,7 @@ stopped_moving {kinds} (fault.NumbersSpent kind) session a b piece failed w serv
 }
 
 -- nothing of the piece was emitted
-stopped_silent : (f : StepFault) (s : State) (piece : Piece) → EmittedButRows (stop_of f) s [] (piece ∷ []) []
+stopped_silent : (f : StepFault) (s : State) (piece : Piece) → EmittedButStored (stop_of f) s [] (piece ∷ []) []
 stopped_silent fault.Failed s piece = refl
 stopped_silent fault.OutOfMemory s piece = refl
 stopped_silent (fault.Damaged damage) s piece = refl

@@ -26,7 +26,7 @@ use Rattle.sasi_store.specs.StoreView.{StoreView}
 use Rattle.sasi_run.specs.Causes.{ComparesPartitioners, FailedCalls, IsOfStore, IsRefusal, LacksAtStart, TellsLack, ReportsAtStart, ReportsDifference, ReportsNow, RunCauses}
 use Rattle.sasi_run.specs.CommandLine.{IsCommandLine, asked_by}
 use Rattle.sasi_run.specs.Crashing.{IsOfState, RunsCrashSafe}
-use Rattle.sasi_run.specs.Headline.{but_rows, status_of_fault}
+use Rattle.sasi_run.specs.Headline.{but_stored, status_of_fault}
 use Rattle.sasi_run.specs.declared.status.Status.{Status}
 use Rattle.sasi_run.specs.declared.status.Status.TheVariants.{Usage, AnalyzerMissing, Damaged, PartitionerDiffers}
 use Rattle.sasi_run.proofs.Complete.{through}
@@ -173,8 +173,8 @@ module _ (T : Type 0) (words : List (List ℕ)) (kinds : List Class) (script : S
     compares = λ folder asked kept files asks keeps other. compares fault failed folder asked kept files asks keeps other;
     missing = λ class is. inl (missing fault failed class is);
     lacks = λ folder class files lacks. record { tells = tells_lack fault (failed.lacks folder class files lacks); unread = refl; silent = failed.silent };
-    complete = λ words x y z. through grammar_parser (but_rows grammar_parser) (status_of_fault fault) no_tables script.left script.left a.emitted b.emitted
-        (first_runs (but_rows grammar_parser) fault no_tables script.left a.emitted b.emitted refl (unmoved a b failed.silent)) (not_usage fault)
+    complete = λ words x y z. through grammar_parser (but_stored grammar_parser) (status_of_fault fault) no_tables script.left script.left a.emitted b.emitted
+        (first_runs (but_stored grammar_parser) fault no_tables script.left a.emitted b.emitted refl (unmoved a b failed.silent)) (not_usage fault)
         (λ is. x (rose script.faults script.faults script.failed_last (failed.calls.script_fault is)))
         (λ is. y (rose a.out_faults b.out_faults b.failed_last (failed.calls.output_fault is)))
         (λ is. z (rose a.disk_faults b.disk_faults b.failed_last (failed.calls.folder_fault is)));
@@ -212,7 +212,7 @@ causes_opened words status script later a b c store are opened on calls reports 
   compares = λ folder asked kept files asks keeps other. absurd (opened.agrees folder asked kept files asks keeps other);
   missing = λ class is. inr (on.lacks class is);
   lacks = λ folder class files lacks. absurd (opened.complete folder class files lacks);
-  complete = λ words x y z. through grammar_parser (but_rows grammar_parser) status opened.state.0 script.left later.left b.emitted c.emitted (on.anywhere opened.state.0 opened.state.1) (of_store_used status of)
+  complete = λ words x y z. through grammar_parser (but_stored grammar_parser) status opened.state.0 script.left later.left b.emitted c.emitted (on.anywhere opened.state.0 opened.state.1) (of_store_used status of)
       (λ is. x (rose script.faults later.faults later.failed_last (calls.script_fault is)))
       (λ is. y (rose a.out_faults c.out_faults c.failed_last (calls.output_fault is)))
       (λ is. z (rose a.disk_faults c.disk_faults c.failed_last (calls.folder_fault is)));

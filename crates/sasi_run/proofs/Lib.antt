@@ -6,7 +6,7 @@ pub mod Running
 pub mod EmitLaws
 pub mod RepliesAtEnd
 pub mod Complete
-pub mod ButRows
+pub mod ButStored
 pub mod Answering
 pub mod RunsAtEnd
 pub mod SilentPieces

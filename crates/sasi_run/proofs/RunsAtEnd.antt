@@ -22,9 +22,9 @@ use Rattle.sasi_model.specs.Step.{refusals, state_after}
 use Rattle.sasi_cql.specs.SplitterState.{resume, behind}
 use Rattle.sasi_store.specs.StoreView.{IsReady}
 use Rattle.sasi_run.specs.Causes.{IsOfStore}
-use Rattle.sasi_run.specs.Crashing.{CrashLeavesPieces, EndsAtRead, FailsCrashSafe, FeedsCrashSafe, FeedsRead, FinishesCrashSafe, IsOfState, LacksAtStop, RanButRows, RanPieces, RanScript, ReadsCrashSafe, RunsCrashSafe, StoppedButRows, StoppedPieces, StopsCrashSafe, StopsWith}
+use Rattle.sasi_run.specs.Crashing.{CrashLeavesPieces, EndsAtRead, FailsCrashSafe, FeedsCrashSafe, FeedsRead, FinishesCrashSafe, IsOfState, LacksAtStop, RanButStored, RanPieces, RanScript, ReadsCrashSafe, RunsCrashSafe, StoppedButStored, StoppedPieces, StopsCrashSafe, StopsWith}
 use Rattle.sasi_run.specs.EmitCounts.{MakesEmits, emits_for, emits_in}
-use Rattle.sasi_run.specs.Headline.{AreRepliesButRows, EmitsAllReplies, EmitsByStatus, IsFirstPart, READ_MOST, ReadsToEnd, Runs, SCRIPT_MOST, but_rows, first_of, script_of, status_of_count, status_of_stop}
+use Rattle.sasi_run.specs.Headline.{AreRepliesButStored, EmitsAllReplies, EmitsByStatus, IsFirstPart, READ_MOST, ReadsToEnd, Runs, SCRIPT_MOST, but_stored, first_of, script_of, status_of_count, status_of_stop}
 use Rattle.sasi_run.specs.Session.{IsAtScriptStart, refusals_of}
 use Rattle.sasi_run.specs.Needs.{AreSupplied}
 use Rattle.sasi_run.specs.Shapes.{answers_of}
@@ -34,7 +34,7 @@ use Rattle.sasi_run.specs.declared.session.Stop.TheVariants.{Disk, Output, Memor
 use Rattle.sasi_run.specs.declared.status.Status.{Status}
 use Rattle.sasi_run.specs.declared.status.Status.TheVariants.{AnalyzerMissing, Done, FolderFault, Refused, ScriptFault, ScriptTooLong}
 use Rattle.sasi_run.proofs.Answering.{feeds_both, feeds_nothing}
-use Rattle.sasi_run.proofs.ButRows.{ran_both_but, stop_runs, stopped_behind_but}
+use Rattle.sasi_run.proofs.ButStored.{ran_both_but, stop_runs, stopped_behind_but}
 use Rattle.sasi_run.proofs.ConsumedBytes.{consumes_both, consumes_kept, consumes_none, consumes_nothing}
 use Rattle.sasi_run.proofs.EmitLaws.{makes_alone}
 use Rattle.sasi_run.proofs.Joining.{first_shown}
@@ -70,7 +70,7 @@ ends_fault from mid l l1 l2 a b n fresh on few kept =
             consumed = consumed;
             emitted = ran.emitted;
             at_end = tt;
-            shows = record { whole = subst (λ (ps : List Piece). AreRepliesButRows grammar_parser s ps ran.shown) (sym (whole_now from mid on.read fresh t)) ran.replies; short = size };
+            shows = record { whole = subst (λ (ps : List Piece). AreRepliesButStored grammar_parser s ps ran.shown) (sym (whole_now from mid on.read fresh t)) ran.replies; short = size };
             bounded = omega (arith, size);
           };
       from = λ w serves.
@@ -118,7 +118,7 @@ ends_script {kinds} from mid to l l1 l2 a b c n none fresh on few ate empty end 
   at_end = end;
   anywhere = λ s of.
       let first = on.feeds.anywhere s of in
-      subst (λ (ps : List Piece). RanButRows s ps from to a c) (sym (all_now from mid on.read fresh on.feeds.feeds))
+      subst (λ (ps : List Piece). RanButStored s ps from to a c) (sym (all_now from mid on.read fresh on.feeds.feeds))
       (ran_both_but s on.feeds.feeds.done (resume mid.splitter []).last from mid to a b c first (fin.anywhere (state_after s on.feeds.feeds.done) first.state));
   ready = fin.ready;
   ran = λ w serves.
@@ -169,8 +169,8 @@ module _ {kinds : List Class} (from to : Session) (l l2 : Option (List ℕ)) (a 
         }
 
   module _ (s : State) (of : IsOfState from.store s) where
-    abbrev all_read : (status : Status) → ReadsToEnd status l2 → EmitsByStatus grammar_parser (but_rows grammar_parser) status s (script_of l on.read) on.read (on.anywhere s of).shown
-        → Runs grammar_parser (but_rows grammar_parser) status s l l2 a.emitted c.emitted
+    abbrev all_read : (status : Status) → ReadsToEnd status l2 → EmitsByStatus grammar_parser (but_stored grammar_parser) status s (script_of l on.read) on.read (on.anywhere s of).shown
+        → Runs grammar_parser (but_stored grammar_parser) status s l l2 a.emitted c.emitted
     all_read status end shows = record {
       read = on.read;
       shown = (on.anywhere s of).shown;
@@ -181,8 +181,8 @@ module _ {kinds : List Class} (from to : Session) (l l2 : Option (List ℕ)) (a 
       bounded = omega (arith, on.short);
     }
 
-    all_but_rows : (n : ℕ) → to.refused ≡ n → EmitsAllReplies grammar_parser (but_rows grammar_parser) s on.read (on.anywhere s of).shown n
-    all_but_rows n is =
+    all_but_stored : (n : ℕ) → to.refused ≡ n → EmitsAllReplies grammar_parser (but_stored grammar_parser) s on.read (on.anywhere s of).shown n
+    all_but_stored n is =
         let count : to.refused ≡ counted_by from.refused (refusals s (all_pieces on.read)) = (on.anywhere s of).count in
         record { all = (on.anywhere s of).replies; count = omega (arith, is, count, fresh.count); short = on.short }
 
@@ -193,7 +193,7 @@ module _ {kinds : List Class} (from to : Session) (l l2 : Option (List ℕ)) (a 
     ended_by true is =
         let zero_is : to.refused ≡ 0 = grind arith in
         record {
-          anywhere = λ s of. all_read s of Done on.at_end (all_but_rows s of 0 zero_is);
+          anywhere = λ s of. all_read s of Done on.at_end (all_but_stored s of 0 zero_is);
           from = λ w serves.
               (let ran = on.ran w serves in
               record {
@@ -220,7 +220,7 @@ module _ {kinds : List Class} (from to : Session) (l l2 : Option (List ℕ)) (a 
     ended_by false is =
         let some : 0 < to.refused = grind arith in
         record {
-          anywhere = λ s of. all_read s of (Refused to.refused) on.at_end (some, all_but_rows s of to.refused refl);
+          anywhere = λ s of. all_read s of (Refused to.refused) on.at_end (some, all_but_stored s of to.refused refl);
           from = λ w serves.
               (let ran = on.ran w serves in
               record {
@@ -310,7 +310,7 @@ ends_last stop from mid l l1 l2 a b c n none fresh on few ate empty end fails =
       anywhere = λ s of.
           let ran = on.feeds.anywhere s of in
           stop_runs stop s on.read l l2 a c t.done last consumed bounded first
-          (subst (λ (ps : List Piece). StoppedButRows stop s ps last a c) (append-nil t.done)
+          (subst (λ (ps : List Piece). StoppedButStored stop s ps last a c) (append-nil t.done)
           (stopped_behind_but stop s t.done [] last from mid a b c ran (fails.anywhere (state_after s t.done) ran.state)));
       from = λ w serves.
           (let ran = on.feeds.ran w serves in
@@ -347,7 +347,7 @@ ends_long from mid to l l1 l2 a b c n chunk part rest fresh on few ate small par
             consumed = consumed;
             emitted = ran.emitted;
             at_end = tt;
-            shows = record { whole = subst (λ (ps : List Piece). AreRepliesButRows grammar_parser s ps ran.shown) (sym whole) ran.replies; long = long };
+            shows = record { whole = subst (λ (ps : List Piece). AreRepliesButStored grammar_parser s ps ran.shown) (sym whole) ran.replies; long = long };
             bounded = bounded;
           };
       from = λ w serves.

@@ -28,7 +28,7 @@ use Rattle.sasi_recover.specs.declared.fault.OpenFault.{OpenFault}
 use Rattle.sasi_recover.specs.declared.fault.OpenFault.TheVariants as open_fault
 use Rattle.sasi_store.specs.StoreView.{StoreView}
 use Rattle.sasi_run.specs.Crashing.{CrashLeavesPieces, IsOfState, RunsCrashSafe, RunsWorld}
-use Rattle.sasi_run.specs.Headline.{AreReplies, EmitsByStatus, EmitsFirstReplies, EndsWith, Headline, RanToEnd, ReadsToEnd, Replies, Runs, RunsAsModel, RunsFrom, StartsFrom, but_rows, first_of, script_of, status_of_fault}
+use Rattle.sasi_run.specs.Headline.{AreReplies, EmitsByStatus, EmitsFirstReplies, EndsWith, Headline, RanToEnd, ReadsToEnd, Replies, Runs, RunsAsModel, RunsFrom, StartsFrom, but_stored, first_of, script_of, status_of_fault}
 use Rattle.sasi_run.specs.Recovering.{IsStateAfter, Recovers}
 use Rattle.sasi_run.specs.Shapes.{answers_of, HasShapeOfImage, LeavesShape, Shapes, StandsForEnd, StartsFromLayout}
 use Rattle.sasi_model.specs.Sessions.{new_session}
@@ -181,7 +181,7 @@ pub record RunsWhole (asked : Option Partitioner) (status : Status) (l : Layout)
 
 -- what a run does, from each layout
 pub record Whole (asked : Option Partitioner) (status : Status) (script_old script_new : SourceView) (host_old host_new : View) : Type 0 where
-  pub on_every_host : (s : State) × Runs grammar_parser (but_rows grammar_parser) status s script_old.left script_new.left host_old.emitted host_new.emitted
+  pub on_every_host : (s : State) × Runs grammar_parser (but_stored grammar_parser) status s script_old.left script_new.left host_old.emitted host_new.emitted
   pub as_it_reads : (folder : Folder) (l : Layout) → host_old.files ≡ Some folder → ShapeOf asked folder l
       → RunsAsModel grammar_parser status (state_of l) script_old.left script_new.left host_old.emitted host_new.emitted
   pub shows : (l : Layout) → StartsFromLayout asked host_old l → RunsWhole asked status l script_old.left script_new.left host_old host_new
@@ -328,7 +328,7 @@ no_tables = record { partitioner = Lead8; tables = [] }
 -- the words name no script
 pub whole_unused : (asked : Option Partitioner) (script : SourceView) (a : View) → IsSound a → Whole asked Usage script script a a
 whole_unused asked script a sound = record {
-  on_every_host = (no_tables, nothing_runs (but_rows grammar_parser) no_tables script.left a.emitted);
+  on_every_host = (no_tables, nothing_runs (but_stored grammar_parser) no_tables script.left a.emitted);
   as_it_reads = λ folder l files shape. replies_as_model Usage l script.left script.left a.emitted a.emitted (shape_order asked folder l shape) (nothing_by_layout l script.left a.emitted);
   shows = λ l starts. runs_nothing asked a l script.left sound starts;
 }
@@ -338,7 +338,7 @@ pub whole_unopened : (asked : Option Partitioner) (fault : OpenFault) (script : 
     → ((folder : Folder) (l : Layout) → a.files ≡ Some folder → ShapeOf asked folder l → Changes (UnchangedOrShaped asked l) a b)
     → Whole asked (status_of_fault fault) script script a b
 whole_unopened asked fault script a b sound silent change = record {
-  on_every_host = (no_tables, first_runs (but_rows grammar_parser) fault no_tables script.left a.emitted b.emitted refl silent);
+  on_every_host = (no_tables, first_runs (but_stored grammar_parser) fault no_tables script.left a.emitted b.emitted refl silent);
   as_it_reads = λ folder l files shape.
       replies_as_model (status_of_fault fault) l script.left script.left a.emitted b.emitted (shape_order asked folder l shape)
       (unopened_by_layout fault l script.left a.emitted b.emitted silent);
@@ -352,7 +352,7 @@ pub whole_opened : {kinds : List Class} (asked : Option Partitioner) (status : S
     → ((folder : Folder) (l : Layout) → a.files ≡ Some folder → ShapeOf asked folder l → ServesWorld b store.memory store.trace (new_world l))
     → RunsCrashSafe kinds status store script.left later.left b c → Whole asked status script later a c
 whole_opened asked status script later a b c store s of sound sound_c silent change opened on = record {
-  on_every_host = (s, moved (but_rows grammar_parser) status s script.left later.left b.emitted a.emitted c.emitted silent (on.anywhere s of));
+  on_every_host = (s, moved (but_stored grammar_parser) status s script.left later.left b.emitted a.emitted c.emitted silent (on.anywhere s of));
   as_it_reads = λ folder l files shape.
       (let serves = opened folder l files shape in
       replies_as_model status l script.left later.left a.emitted c.emitted serves.serves.in_order

@@ -10,7 +10,7 @@ use Rattle.sasi_model.specs.Step.{refusals, state_after}
 use Rattle.sasi_layout.specs.Layout.{state_of}
 use Rattle.sasi_layout.specs.Running.{after_pieces, replies_of}
 use Rattle.sasi_layout.specs.NumbersInOrder.{HasNumbersInOrder}
-use Rattle.sasi_store.specs.Worlds.{World, piece_checks, steps}
+use Rattle.sasi_store.specs.Worlds.{World, steps, told_in}
 use Rattle.sasi_layout.proofs.StatementLaws.{step_in_order, step_state_by}
 use Rattle.sasi_run.specs.EmitCounts.{emits_for, emits_in, emits_of}
 use Rattle.sasi_run.specs.Headline.{AreReplies}
@@ -54,7 +54,7 @@ state_is (p ∷ ps) w in_order = state_is ps (steps.after w p) (step_in_order gr
 pub answers_are : (ps : List Piece) (w : World) → HasNumbersInOrder w.layout → AreReplies grammar_parser w.session (state_of w.layout) ps (answers_of steps w ps)
 answers_are [] w in_order = refl
 answers_are (p ∷ ps) w in_order = (
-  (piece_checks w.layout (read p), refl),
+  (told_in w.layout (read p), refl),
   subst (λ (s : State). AreReplies grammar_parser (session_by grammar_parser w.session (state_of w.layout) p) s ps (answers_of steps (steps.after w p) ps)) (step_state_by grammar_parser w.layout p in_order)
       (answers_are ps (steps.after w p) (step_in_order grammar_parser w.layout p in_order)),
 )

@@ -22,7 +22,7 @@ use Rattle.sasi_run.specs.declared.session.Stop.TheVariants.{Missing, Output, Sp
 use Rattle.sasi_run.specs.declared.status.Status.{Status}
 use Rattle.sasi_run.specs.declared.status.Status.TheVariants.{AnalyzerMissing, Damaged, ScriptFault}
 use Rattle.sasi_run.specs.EmitCounts.{EmitsCounted, MakesEmits, emits_failed, emits_in}
-use Rattle.sasi_run.specs.Headline.{AreRepliesButRows, IsReplyButRows, RanToEnd, READ_MOST, SCRIPT_MOST, Runs, but_rows, first_of, script_of, status_of_stop}
+use Rattle.sasi_run.specs.Headline.{AreRepliesButStored, IsReplyButStored, RanToEnd, READ_MOST, SCRIPT_MOST, Runs, but_stored, first_of, script_of, status_of_stop}
 use Rattle.sasi_run.specs.Session.{EmittedAtStop, Feeds, Stops, refusals_of}
 use Rattle.sasi_run.specs.Needs.{AreSupplied, NeedsByStatus}
 use Rattle.sasi_run.specs.Shapes.{answers_of}
@@ -39,26 +39,26 @@ CrashLeavesPieces a b w pieces = (out : List ℕ) → a.emitted ≡ Some out →
 abbrev pub IsOfState : StoreView → State → Type 0
 IsOfState store s = IsStateOf (known_in_memory store.memory) s
 
--- From a state that the store was of these pieces were run: their replies were emitted, but for the rows, and the store is of the state after them.
-pub record RanButRows (s : State) (pieces : List Piece) (old new : Session) (a b : View) : Type 0 where
+-- From a state that the store was of these pieces were run: their replies were emitted, but for what comes from the files or tells of them, and the store is of the state after them.
+pub record RanButStored (s : State) (pieces : List Piece) (old new : Session) (a b : View) : Type 0 where
   pub state : IsOfState new.store (state_after s pieces)
   pub shown : List ℕ
   pub emitted : Appends a.emitted b.emitted shown
-  pub replies : AreRepliesButRows grammar_parser s pieces shown
+  pub replies : AreRepliesButStored grammar_parser s pieces shown
   pub count : new.refused ≡ counted_by old.refused (refusals s pieces)
 
 -- what was emitted where a run stopped behind some pieces
-abbrev pub EmittedButRows : Stop → State → List Piece → List Piece → List ℕ → Type 0
-EmittedButRows Output s done next shown = (piece : Piece) × (whole front back : List ℕ) × (next ≡ piece ∷ []) × AreRepliesButRows grammar_parser s done whole
-    × IsReplyButRows grammar_parser (state_after s done) piece (front ++ back) × (shown ≡ whole ++ front)
-EmittedButRows (Spent kind) s done next shown = (piece : Piece) × (next ≡ piece ∷ []) × AreRepliesButRows grammar_parser s done shown
-EmittedButRows stop s done next shown = AreRepliesButRows grammar_parser s done shown
+abbrev pub EmittedButStored : Stop → State → List Piece → List Piece → List ℕ → Type 0
+EmittedButStored Output s done next shown = (piece : Piece) × (whole front back : List ℕ) × (next ≡ piece ∷ []) × AreRepliesButStored grammar_parser s done whole
+    × IsReplyButStored grammar_parser (state_after s done) piece (front ++ back) × (shown ≡ whole ++ front)
+EmittedButStored (Spent kind) s done next shown = (piece : Piece) × (next ≡ piece ∷ []) × AreRepliesButStored grammar_parser s done shown
+EmittedButStored stop s done next shown = AreRepliesButStored grammar_parser s done shown
 
 -- From a state that the store was of the run stopped behind `done`, in `next`.
-pub record StoppedButRows (stop : Stop) (s : State) (done next : List Piece) (a b : View) : Type 0 where
+pub record StoppedButStored (stop : Stop) (s : State) (done next : List Piece) (a b : View) : Type 0 where
   pub shown : List ℕ
   pub emitted : Appends a.emitted b.emitted shown
-  pub replies : EmittedButRows stop s done next shown
+  pub replies : EmittedButStored stop s done next shown
 
 -- none of these analyzers is of the class that stopped it
 abbrev pub LacksAtStop : List Class → Stop → Type 0
@@ -86,33 +86,33 @@ pub record StoppedPieces (kinds : List Class) (stop : Stop) (w : World) (done ne
 -- the session has run this piece
 pub record AnswersCrashSafe (kinds : List Class) (old new : Session) (a b : View) (piece : Piece) : Type 0 where
   pub reading : new.splitter ≡ old.splitter
-  pub anywhere : (s : State) → IsOfState old.store s → RanButRows s (piece ∷ []) old new a b
+  pub anywhere : (s : State) → IsOfState old.store s → RanButStored s (piece ∷ []) old new a b
   pub ready : IsReady b new.store
   pub ran : (w : World) → ServesWorld a old.store.memory old.store.trace w → RanPieces kinds w (piece ∷ []) old new a b
 
 -- it stopped in these pieces
 pub record FailsCrashSafe (kinds : List Class) (stop : Stop) (old : Session) (a b : View) (next : List Piece) : Type 0 where
-  pub anywhere : (s : State) → IsOfState old.store s → StoppedButRows stop s [] next a b
+  pub anywhere : (s : State) → IsOfState old.store s → StoppedButStored stop s [] next a b
   pub stopped : (w : World) → ServesWorld a old.store.memory old.store.trace w → StoppedPieces kinds stop w [] next a b
   pub lacks : LacksAtStop kinds stop
 
 -- it was fed these bytes
 pub record FeedsCrashSafe (kinds : List Class) (old new : Session) (a b : View) (bytes : List ℕ) : Type 0 where
   pub feeds : Feeds old new bytes
-  pub anywhere : (s : State) → IsOfState old.store s → RanButRows s feeds.done old new a b
+  pub anywhere : (s : State) → IsOfState old.store s → RanButStored s feeds.done old new a b
   pub ready : IsReady b new.store
   pub ran : (w : World) → ServesWorld a old.store.memory old.store.trace w → RanPieces kinds w feeds.done old new a b
 
 -- it stopped within them
 pub record StopsCrashSafe (kinds : List Class) (stop : Stop) (old : Session) (a b : View) (bytes : List ℕ) : Type 0 where
   pub stops : Stops old bytes
-  pub anywhere : (s : State) → IsOfState old.store s → StoppedButRows stop s stops.done stops.next a b
+  pub anywhere : (s : State) → IsOfState old.store s → StoppedButStored stop s stops.done stops.next a b
   pub stopped : (w : World) → ServesWorld a old.store.memory old.store.trace w → StoppedPieces kinds stop w stops.done stops.next a b
   pub lacks : LacksAtStop kinds stop
 
 -- it has run the last piece, if anything was left of one
 pub record FinishesCrashSafe (kinds : List Class) (old new : Session) (a b : View) : Type 0 where
-  pub anywhere : (s : State) → IsOfState old.store s → RanButRows s (resume old.splitter []).last old new a b
+  pub anywhere : (s : State) → IsOfState old.store s → RanButStored s (resume old.splitter []).last old new a b
   pub ready : IsReady b new.store
   pub ran : (w : World) → ServesWorld a old.store.memory old.store.trace w → RanPieces kinds w (resume old.splitter []).last old new a b
 
@@ -159,7 +159,7 @@ pub record RanScript (kinds : List Class) (from to : Session) (left_old left_new
   pub consumed : Consumes left_old left_new read
   pub short : length read ≤ SCRIPT_MOST
   pub at_end : IsAtEnd left_new
-  pub anywhere : (s : State) → IsOfState from.store s → RanButRows s (all_pieces read) from to a b
+  pub anywhere : (s : State) → IsOfState from.store s → RanButStored s (all_pieces read) from to a b
   pub ready : IsReady b to.store
   pub ran : (w : World) → ServesWorld a from.store.memory from.store.trace w → RanPieces kinds w (all_pieces read) from to a b
 
@@ -177,6 +177,6 @@ pub record RunsWorld (kinds : List Class) (status : Status) (w : World) (left_ol
 
 -- the run of a store from each state that it was of, and from each world that it served
 pub record RunsCrashSafe (kinds : List Class) (status : Status) (store : StoreView) (left_old left_new : Option (List ℕ)) (a b : View) : Type 0 where
-  pub anywhere : (s : State) → IsOfState store s → Runs grammar_parser (but_rows grammar_parser) status s left_old left_new a.emitted b.emitted
+  pub anywhere : (s : State) → IsOfState store s → Runs grammar_parser (but_stored grammar_parser) status s left_old left_new a.emitted b.emitted
   pub from : (w : World) → ServesWorld a store.memory store.trace w → RunsWorld kinds status w left_old left_new a b
   pub lacks : (class : Class) → status ≡ AnalyzerMissing class → has_class class kinds ≡ false

@@ -13,9 +13,9 @@ use Rattle.sasi_model.specs.Parsers.{Parser, IsParser}
 use Rattle.sasi_model.specs.Step.{step_by, state_by, refusals_by}
 use Rattle.sasi_recover.specs.declared.fault.OpenFault.{OpenFault}
 use Rattle.sasi_recover.specs.declared.fault.OpenFault.TheVariants as open_fault
-use Rattle.sasi_store.specs.Answers.{PrintsRows}
+use Rattle.sasi_store.specs.Answers.{PrintsStored}
 use Rattle.sasi_run.specs.Recovering.{Recovers, StandsRelation, next_reply}
-use Rattle.sasi_model.specs.Sessions.{SessionState, new_session, reply_by, session_by}
+use Rattle.sasi_model.specs.Sessions.{SessionState, Told, new_session, reply_by, session_by}
 use Rattle.sasi_run.specs.declared.session.Stop.{Stop}
 use Rattle.sasi_run.specs.declared.session.Stop.TheVariants.{Disk, Output, Memory, Corrupt, Spent, Missing}
 use Rattle.sasi_run.specs.declared.status.Status.{Status}
@@ -31,9 +31,9 @@ READ_MOST = 4096
 
 -- ---- replies
 
--- the reply to a piece from a state is that of the model, whose tail, if it has one, says some number
+-- the reply to a piece from a state is that of the model, whose tail, if it has one, tells some number or some files
 abbrev pub IsReply : Parser → SessionState → State → Piece → List ℕ → Type 0
-IsReply parser session s piece reply = (n : ℕ) × (reply ≡ reply_by parser session s piece n)
+IsReply parser session s piece reply = (told : Told) × (reply ≡ reply_by parser session s piece told)
 
 -- these are the replies to pieces from a state, one to each
 abbrev pub AreReplies : Parser → SessionState → State → List Piece → List (List ℕ) → Type 0
@@ -53,18 +53,18 @@ first_of answers = record {
   one = λ s done piece reply. next_reply answers (length done) ≡ reply;
 }
 
--- the reply of a piece is that of the model, but where it has rows
-abbrev pub IsReplyButRows : Parser → State → Piece → List ℕ → Type 0
-IsReplyButRows parser s piece reply = ¬ (PrintsRows parser s piece) → reply ≡ (step_by parser s piece).reply
+-- the reply of a piece is that of the model, but where it comes from the files or tells of them
+abbrev pub IsReplyButStored : Parser → State → Piece → List ℕ → Type 0
+IsReplyButStored parser s piece reply = ¬ (PrintsStored parser s piece) → reply ≡ (step_by parser s piece).reply
 
 -- and so is each of the replies of pieces, in their order
-abbrev pub AreRepliesButRows : Parser → State → List Piece → List ℕ → Type 0
-AreRepliesButRows parser s [] shown = shown ≡ []
-AreRepliesButRows parser s (p ∷ ps) shown = (reply others : List ℕ) × (shown ≡ reply ++ others) × IsReplyButRows parser s p reply × AreRepliesButRows parser (step_by parser s p).state ps others
+abbrev pub AreRepliesButStored : Parser → State → List Piece → List ℕ → Type 0
+AreRepliesButStored parser s [] shown = shown ≡ []
+AreRepliesButStored parser s (p ∷ ps) shown = (reply others : List ℕ) × (shown ≡ reply ++ others) × IsReplyButStored parser s p reply × AreRepliesButStored parser (step_by parser s p).state ps others
 
--- they are those of the model, whatever the rows are that the SELECTs print
-abbrev pub but_rows : Parser → Replies
-but_rows parser = record { all = AreRepliesButRows parser; one = λ s done piece reply. IsReplyButRows parser (state_by parser s done) piece reply }
+-- they are those of the model, whatever the SELECTs print, and whatever SHOW FILES does
+abbrev pub but_stored : Parser → Replies
+but_stored parser = record { all = AreRepliesButStored parser; one = λ s done piece reply. IsReplyButStored parser (state_by parser s done) piece reply }
 
 -- ---- what was emitted
 
@@ -194,8 +194,8 @@ pub record Headline (StandsFor : StandsRelation) (asked : Option Partitioner) (s
   -- the parser of the grammar, by which each piece is read
   pub parser : Parser
   pub parses : IsParser parser
-  -- on every host, also where its files aren't told or stand for nothing: from some state all but the rows
-  pub on_every_host : (s : State) × Runs parser (but_rows parser) status s script_old.left script_new.left host_old.emitted host_new.emitted
+  -- on every host, also where its files aren't told or stand for nothing: from some state all but what comes from the files or tells of them
+  pub on_every_host : (s : State) × Runs parser (but_stored parser) status s script_old.left script_new.left host_old.emitted host_new.emitted
   -- the replies, from the state for which the folder as it reads stands, whatever its images are
   pub as_it_reads : (folder : Folder) (s : State) → host_old.files ≡ Some folder → StandsFor asked folder s
       → RunsAsModel parser status s script_old.left script_new.left host_old.emitted host_new.emitted

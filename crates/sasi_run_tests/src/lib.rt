@@ -7,6 +7,8 @@ mod cases;
 #[cfg(test)]
 mod crashes;
 #[cfg(test)]
+mod files;
+#[cfg(test)]
 mod loads;
 #[cfg(test)]
 mod machine;

@@ -25,6 +25,7 @@ use Rattle.sasi_store.specs.MakesMoves.{MakesMoves, MovesOf}
 use Rattle.sasi_store.specs.declared.fault.StepFault.{StepFault}
 use Rattle.sasi_store.specs.declared.fault.StepFault.TheVariants as fault
 use Rattle.sasi_store.proofs.MoveCauses.{any_change, none_made}
+use Rattle.sasi_store.proofs.ListedFrames.{same_stays, stays_on}
 use Rattle.sasi_store.proofs.TablesInMemory.{seen_as}
 
 -- ---- a mutation, and moves after it
@@ -61,6 +62,8 @@ module _ (m : Mutation) (more : MovesOf) where
     undamaged = first.undamaged;
     present = first.present;
     changes = first.changes;
+    files_stay = first.files_stay;
+    listed_stay = tt;
     reads = first.reads;
     causes = record { disk = first.causes.disk; out = first.causes.out; ok = tt; failed = first.causes.failed; others = first.causes.others };
   }
@@ -83,6 +86,8 @@ module _ (m : Mutation) (more : MovesOf) where
     undamaged = second.undamaged;
     present = second.present;
     changes = changes_both a b c first.changes second.changes;
+    files_stay = stays_on a b c old.manifest.listing mid.manifest.listing first.listed_stay first.files_stay second.files_stay;
+    listed_stay = by_ok result (λ keeps table f has. keeps table f (first.listed_stay table f has)) second.listed_stay;
     reads = second.reads ∙ first.reads;
     causes = causes_on a b c x result first.causes second.causes;
   }
@@ -145,6 +150,8 @@ module _ (test : List Partitions → Bool) (table : ℕ) (v : View) (store : Sto
     undamaged = tt;
     present = tt;
     changes = any_change Same v v (stays v);
+    files_stay = same_stays store.manifest.listing v v (stays v);
+    listed_stay = λ table f has. has;
     reads = refl;
     causes = none_made v done (λ e is. cc);
   }
@@ -160,6 +167,8 @@ module _ (test : List Partitions → Bool) (table : ℕ) (v : View) (store : Sto
     undamaged = makes.undamaged;
     present = makes.present;
     changes = makes.changes;
+    files_stay = makes.files_stay;
+    listed_stay = makes.listed_stay;
     reads = makes.reads;
     causes = makes.causes;
   }

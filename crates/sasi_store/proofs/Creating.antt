@@ -46,6 +46,7 @@ use Rattle.sasi_store.specs.MakesMoves.{MakesMoves}
 use Rattle.sasi_store.specs.declared.fault.StepFault.{StepFault}
 use Rattle.sasi_store.specs.Writable.{IsCreatable}
 use Rattle.sasi_store.proofs.MoveCauses.{IsPlain, any_change, plain_present, plain_undamaged, plain_unspent}
+use Rattle.sasi_store.proofs.ListedFrames.{keeps_created, other_stays}
 use Rattle.sasi_layout.proofs.KeptLaws.{keeps_manifest}
 use Rattle.sasi_store.proofs.Frames.{changed_kept, end_other, reached_there}
 use Rattle.sasi_store.proofs.TablesInMemory.{all_push, ready_push}
@@ -209,6 +210,8 @@ module _ (a b : View) (sound : IsSound a) (store : StoreInMemory) (t : Table) (r
     undamaged = plain_undamaged e plain;
     present = plain_present _ e plain;
     changes = any_change (FileChange (manifest_name store.manifest.number) AnyChange) a b change;
+    files_stay = other_stays store.manifest.listing (manifest_name store.manifest.number) (omega arith) a b change;
+    listed_stay = tt;
     reads = reads;
     causes = causes;
   }
@@ -225,6 +228,8 @@ module _ (a b : View) (sound : IsSound a) (store : StoreInMemory) (t : Table) (r
     undamaged = tt;
     present = tt;
     changes = any_change (FileChange (manifest_name store.manifest.number) AnyChange) a b change;
+    files_stay = other_stays store.manifest.listing (manifest_name store.manifest.number) (omega arith) a b change;
+    listed_stay = keeps_created _ store.manifest.listing new.listing (listed_after a b sound store t ready creatable new.listing is).3;
     reads = reads;
     causes = causes;
   }

@@ -48,6 +48,7 @@ use Rattle.sasi_store.specs.declared.fault.StepFault.TheVariants.{NumbersSpent}
 use Rattle.sasi_store.specs.Writable.{IsDefinable}
 use Rattle.sasi_store.proofs.Composition.{numbered_at}
 use Rattle.sasi_store.proofs.MoveCauses.{IsPlain, any_change, makes_nothing, plain_present, plain_undamaged, plain_unspent}
+use Rattle.sasi_store.proofs.ListedFrames.{keeps_defined, other_stays}
 use Rattle.sasi_layout.proofs.KeptLaws.{keeps_manifest}
 use Rattle.sasi_store.proofs.Frames.{changed_kept, end_other, reached_there}
 use Rattle.sasi_store.proofs.TablesInMemory.{all_push}
@@ -242,6 +243,8 @@ module _ (a b : View) (sound : IsSound a) (store : StoreInMemory) (new : NewInde
     undamaged = plain_undamaged e plain;
     present = plain_present _ e plain;
     changes = any_change (FileChange (manifest_name store.manifest.number) AnyChange) a b change;
+    files_stay = other_stays listing (manifest_name store.manifest.number) (omega arith) a b change;
+    listed_stay = tt;
     reads = reads;
     causes = causes;
   }
@@ -258,6 +261,8 @@ module _ (a b : View) (sound : IsSound a) (store : StoreInMemory) (new : NewInde
     undamaged = tt;
     present = tt;
     changes = any_change (FileChange (manifest_name store.manifest.number) AnyChange) a b change;
+    files_stay = other_stays listing (manifest_name store.manifest.number) (omega arith) a b change;
+    listed_stay = keeps_defined (numbered_def next_number new) new.table listing made.listing (listed_after made.listing is).3;
     reads = reads;
     causes = causes;
   }

@@ -44,6 +44,7 @@ use Rattle.sasi_store.specs.declared.fault.StepFault.TheVariants.{NumbersSpent, 
 use Rattle.sasi_store.specs.declared.flush.FlushNumbers.{FlushNumbers}
 use Rattle.sasi_store.specs.declared.parts.Parts.{Parts}
 use Rattle.sasi_store.proofs.FlushingTables.{can_flush, flush_of, flush_ready, flush_serves, listed_after}
+use Rattle.sasi_store.proofs.ListedFrames.{flush_stays, keeps_flushed}
 use Rattle.sasi_store.proofs.MoveCauses.{any_change, call_failed, call_made, call_plain, made_then_full, makes_nothing, plain_present, plain_undamaged, plain_unspent}
 use Rattle.sasi_store.proofs.TablesInMemory.{all_at, all_set, inside_there, map_there, set_numbered, there_inside, unseen_set}
 
@@ -172,6 +173,8 @@ module _ (a : View) (sound : IsSound a) (p : Parts) (of : IsOfParts p) (ready : 
       undamaged = plain_undamaged (fault_of_call f) (call_plain f);
       present = plain_present _ (fault_of_call f) (call_plain f);
       changes = any_change (ChangesInFlush p.manifest.number p.manifest.listing.floor numbers parts) a b change;
+      files_stay = flush_stays a (memory_of p) ready p.manifest.listing.floor numbers parts is.file a b change;
+      listed_stay = tt;
       reads = causes.reads;
       causes = call_failed a b f causes;
     }
@@ -187,6 +190,8 @@ module _ (a : View) (sound : IsSound a) (p : Parts) (of : IsOfParts p) (ready : 
       undamaged = tt;
       present = tt;
       changes = any_change (ChangesInFlush p.manifest.number p.manifest.listing.floor numbers parts) a b change;
+      files_stay = flush_stays a (memory_of p) ready p.manifest.listing.floor numbers parts is.file a b change;
+      listed_stay = tt;
       reads = causes.reads;
       causes = made_then_full a b x causes;
     }
@@ -207,6 +212,8 @@ module _ (a : View) (sound : IsSound a) (p : Parts) (of : IsOfParts p) (ready : 
       undamaged = tt;
       present = tt;
       changes = any_change (ChangesInFlush p.manifest.number p.manifest.listing.floor numbers parts) a b change;
+      files_stay = flush_stays a (memory_of p) ready p.manifest.listing.floor numbers parts is.file a b change;
+      listed_stay = keeps_flushed (new_listed_file next.«data» parts) next.log number p.manifest.listing manifest.listing (tables_after manifest listed);
       reads = causes.reads;
       causes = call_made a b x y causes;
     }

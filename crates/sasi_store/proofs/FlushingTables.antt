@@ -117,7 +117,7 @@ rising_higher : (low a b : ℕ) (fs : List ListedFile) → a ≤ b → Rising lo
 rising_higher low a b [] le rise = omega (arith, le, rise)
 rising_higher low a b (f ∷ fs) le rise = (rise.0, rising_higher f.number a b fs le rise.1)
 
-none_without : (fs : List ListedFile) → without [] fs ≡ fs
+pub none_without : (fs : List ListedFile) → without [] fs ≡ fs
 none_without [] = refl
 none_without (f ∷ fs) = ap (λ (l : List ListedFile). f ∷ l) (none_without fs)
 

@@ -27,9 +27,13 @@ pub mod Creating
 pub mod Defining
 pub mod ListedSchema
 pub mod FlushingTables
+pub mod ListedFrames
 pub mod Composition
 pub mod SessionLaws
 pub mod Stepping
+pub mod NoFile
+pub mod ToldFiles
+pub mod StepFiles
 pub mod FloorLaws
 pub mod FlushingParts
 pub mod FlushPrepared

@@ -16,6 +16,7 @@ use Rattle.sasi_store.specs.Faults.{OnMissing, OnSpent, OnStepDamage, StepCauses
 use Rattle.sasi_store.specs.MakesMoves.{MakesMoves, MovesOf}
 use Rattle.sasi_store.specs.declared.fault.StepFault.{StepFault}
 use Rattle.sasi_store.specs.declared.fault.StepFault.TheVariants as fault
+use Rattle.sasi_store.proofs.ListedFrames.{same_stays}
 
 -- ---- faults of calls and of memory
 
@@ -88,6 +89,8 @@ makes_nothing moves v sound old new e undamaged present spent_is other = record 
   undamaged = undamaged;
   present = present;
   changes = any_change Same v v (stays v);
+  files_stay = same_stays old.manifest.listing v v (stays v);
+  listed_stay = tt;
   reads = refl;
   causes = none_made v (Err e) (λ f is same. (let one : e ≡ f = cc in other (one_then one same)));
 }

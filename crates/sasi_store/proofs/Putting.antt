@@ -8,7 +8,7 @@ use Rattle.sasi_types.specs.declared.class.Class.{Class}
 use Rattle.sasi_memindex.specs.Book.{Book, CanChange as Changeable}
 use Rattle.sasi_host.proofs.ContentLaws.{contents_other, reaches_where, told_after, told_before}
 use Rattle.sasi_host.specs.Disk.{AnyChange, Changes, FileChange, LeftWith}
-use Rattle.sasi_host.specs.Names.{log_name, manifest_name}
+use Rattle.sasi_host.specs.Names.{log_name, manifest_name, rank}
 use Rattle.sasi_host.specs.View.{IsSound, Reaches, View}
 use Rattle.sasi_gated.specs.Handles.{Handle}
 use Rattle.sasi_cells.specs.declared.mutation.Mutation.{Mutation}
@@ -57,6 +57,7 @@ use Rattle.sasi_store.specs.declared.fault.StepFault.{StepFault}
 use Rattle.sasi_store.specs.declared.parts.Parts.{Parts}
 use Rattle.sasi_store.specs.Puts.{HasTableFor, IsPutAt, memory_after_put, put_in_memory, put_map}
 use Rattle.sasi_store.proofs.MoveCauses.{IsPlain, any_change, plain_present, plain_undamaged, plain_unspent}
+use Rattle.sasi_store.proofs.ListedFrames.{other_stays}
 use Rattle.sasi_store.specs.Writable.{IsWritableMutation}
 use Rattle.sasi_layout.proofs.KeptLaws.{keeps_segment}
 use Rattle.sasi_store.proofs.Frames.{changed_kept, manifest_other, reached_there}
@@ -189,6 +190,8 @@ module _ (a b : View) (sound : IsSound a) (store : StoreInMemory) (m : Mutation)
     undamaged = plain_undamaged e plain;
     present = plain_present _ e plain;
     changes = any_change (FileChange store.log.file AnyChange) a b change;
+    files_stay = other_stays listing store.log.file (subst (λ f. rank f.kind < 3) (sym ready.log_file) (omega arith)) a b change;
+    listed_stay = tt;
     reads = reads;
     causes = causes;
   }
@@ -205,6 +208,8 @@ module _ (a b : View) (sound : IsSound a) (store : StoreInMemory) (m : Mutation)
     undamaged = tt;
     present = tt;
     changes = any_change (FileChange store.log.file AnyChange) a b change;
+    files_stay = other_stays listing store.log.file (subst (λ f. rank f.kind < 3) (sym ready.log_file) (omega arith)) a b change;
+    listed_stay = λ table f has. has;
     reads = reads;
     causes = causes;
   }

@@ -1,21 +1,21 @@
 -- What pieces make of a session, and what tails their replies have.
-use Rattle.std.proofs.Common.{◌≡◌, ◌⊎◌, ◌++◌, Bool, cond, is_some, ℕ, Option, None, Some, IsSome, inl, inr, refl, ap, ◌∙◌}
+use Rattle.std.proofs.Common.{◌≡◌, ◌⊎◌, ◌++◌, Bool, true, false, cond, is_some, ℕ, [], Option, None, Some, IsSome, inl, inr, refl, ap, ◌∙◌}
 use Rattle.std.proofs.lemmas.List.{append-nil}
 use Rattle.std.specs.Option.{option_map_or}
 use Rattle.sasi_cells.specs.declared.mutation.Mutation.{Mutation}
-use Rattle.sasi_machine.specs.Prepares.{CreatesTable, DefinesIndex, FlushesTable, IsRefusedOrEmpty, SaysOne, SelectsRows, TurnsTrace, WritesTo}
+use Rattle.sasi_machine.specs.Prepares.{AsksFiles, CreatesTable, DefinesIndex, FlushesTable, IsRefusedOrEmpty, SaysOne, SelectsRows, TurnsTrace, WritesTo}
 use Rattle.sasi_machine.specs.Writes.{IsWriting}
 use Rattle.sasi_machine.specs.declared.prepared.Selection.{Selection}
 use Rattle.sasi_model.specs.Parsers.{grammar_parser}
 use Rattle.sasi_model.specs.Pieces.{Piece}
 use Rattle.sasi_model.specs.Refusals.{Bad, Nothing, ParsedPiece, Refusal, Says, read, refusal}
-use Rattle.sasi_model.specs.Sessions.{CheckedTail, NoTail, SessionState, Tail, reply_by, session_as, session_by, session_given, tail_as, tail_by, tail_bytes, tail_given}
+use Rattle.sasi_model.specs.Sessions.{CheckedTail, FilesTail, NoTail, SessionState, Tail, Told, reply_by, session_as, session_by, session_given, tail_as, tail_by, tail_bytes, tail_given}
 use Rattle.sasi_model.specs.State.{State}
 use Rattle.sasi_model.specs.Step.{execute, refused_step, step, step_as, step_by}
 use Rattle.sasi_schema.specs.declared.index.NewIndex.{NewIndex}
 use Rattle.sasi_schema.specs.declared.table.Table.{Table}
 use Rattle.sasi_types.specs.declared.statement.Statement.{Statement}
-use Rattle.sasi_types.specs.declared.statement.Statement.TheVariants.{CreateTable, CreateIndex, Insert, Update, Delete, Query, Flush, Trace}
+use Rattle.sasi_types.specs.declared.statement.Statement.TheVariants.{CreateTable, CreateIndex, Insert, Update, Delete, Query, Flush, ShowFiles, Trace}
 
 -- ---- pieces
 
@@ -29,8 +29,8 @@ abbrev pub LeavesSession : State → Piece → Type 0
 LeavesSession s piece = TurnsSession s piece (λ x. x) (λ x. NoTail)
 
 -- so the reply is that of the model
-pub plain_reply : (s : State) (piece : Piece) (after : SessionState → SessionState) → TurnsSession s piece after (λ x. NoTail) → (x : SessionState) (n : ℕ) → reply_by grammar_parser x s piece n ≡ (step s piece).reply
-plain_reply s piece after leaves x n = ap (λ (tail : Tail). (step s piece).reply ++ tail_bytes tail n) (leaves.tail_is x) ∙ append-nil (step s piece).reply
+pub plain_reply : (s : State) (piece : Piece) (after : SessionState → SessionState) → TurnsSession s piece after (λ x. NoTail) → (x : SessionState) (told : Told) → reply_by grammar_parser x s piece told ≡ (step s piece).reply
+plain_reply s piece after leaves x told = ap (λ (tail : Tail). (step s piece).reply ++ tail_bytes tail told) (leaves.tail_is x) ∙ append-nil (step s piece).reply
 
 parsed_turns : (s : State) (piece : Piece) (parsed : ParsedPiece) (after : SessionState → SessionState) (tail : SessionState → Tail) → read piece ≡ parsed
     → ((x : SessionState) → (session_as x s parsed ≡ after x) × (tail_as x s parsed ≡ tail x)) → TurnsSession s piece after tail
@@ -131,3 +131,20 @@ selected_turns s piece rows says = said_turns s piece (λ statement. SelectsRows
     turns : (statement : Statement) → SelectsRows s statement rows → (x : SessionState) → (session_given x statement ≡ x) × (tail_given x statement ≡ cond x.trace CheckedTail NoTail)
     turns (Query select) is x = (refl, refl)
     turns statement is x = absurd is
+
+-- and that of SHOW FILES has the lines of files
+pub listed_turns : (s : State) (piece : Piece) → SaysOne piece (AsksFiles s) → TurnsSession s piece (λ x. x) (λ x. FilesTail)
+listed_turns s piece says = said_turns s piece (AsksFiles s) (λ x. x) (λ x. FilesTail) says taken turns
+  where
+    taken : (statement : Statement) → AsksFiles s statement → refusal s statement ≡ None
+    taken ShowFiles is = is
+    taken statement is = absurd is
+
+    turns : (statement : Statement) → AsksFiles s statement → (x : SessionState) → (session_given x statement ≡ x) × (tail_given x statement ≡ FilesTail)
+    turns ShowFiles is x = (refl, refl)
+    turns statement is x = absurd is
+
+-- a number alone is told, or the files as well: the tail of a SELECT is the same
+pub tail_checked : (trace : Bool) (told : Told) → tail_bytes (cond trace CheckedTail NoTail) told ≡ tail_bytes (cond trace CheckedTail NoTail) (record { checked = told.checked; files = [] })
+tail_checked true told = refl
+tail_checked false told = refl

@@ -1,5 +1,5 @@
 -- What the parts of a step make of its promises.
-use Rattle.std.proofs.Common.{◌≡◌, ◌≢◌, ◌+◌, ◌≤◌, ◌++◌, ◌∷◌, Bool, ℕ, List, [], Option, None, Some, IsSome, Result, Ok, Err, refl, sym, ap, subst, ◌∙◌, inl, inr, arith}
+use Rattle.std.proofs.Common.{◌≡◌, ◌≢◌, ◌+◌, ◌≤◌, ◌++◌, ◌∷◌, Bool, ℕ, List, [], Option, None, Some, Result, Ok, Err, refl, sym, ap, subst, ◌∙◌, inl, arith}
 use Rattle.std.specs.Option.{option_map_or}
 use Rattle.sasi_folder.specs.Damages.{FolderShows}
 use Rattle.sasi_host.proofs.ChangeLaws.{at_each_moment, stays}
@@ -37,22 +37,23 @@ use Rattle.sasi_model.specs.Abbreviations.{definitions}
 use Rattle.sasi_model.specs.Asked as ask
 use Rattle.sasi_model.specs.Asked.{Asked, asks, class_needed}
 use Rattle.sasi_model.specs.Pieces.{Piece}
-use Rattle.sasi_model.specs.Refusals.{Nothing, Refusal, Says, read}
+use Rattle.sasi_model.specs.Refusals.{Refusal, Says, read}
 use Rattle.sasi_model.specs.Sessions.{SessionState, Tail, tail_bytes}
 use Rattle.sasi_model.specs.State.{Definition, State, max_timestamp}
 use Rattle.sasi_model.specs.Step.{step}
-use Rattle.sasi_store.specs.Answers.{AnsweredButRows, NeedsNoFile}
+use Rattle.sasi_store.specs.Answers.{AnsweredButRows}
 use Rattle.sasi_store.specs.Faults.{OnMissing, OnSpent, OnStepDamage, StepCauses, fault_of_kit}
 use Rattle.sasi_store.proofs.KnownClasses.{no_table_lacks}
 use Rattle.sasi_schema.specs.Numbers.{number_of_table}
 use Rattle.sasi_store.specs.MakesMoves.{MakesMoves}
 use Rattle.sasi_store.specs.Selects.{HasShortFiles, HasShortRows, HasShortTable, select_reads, selection_reads}
 use Rattle.sasi_store.specs.Steps.{StepPromises}
-use Rattle.sasi_store.specs.Worlds.{ServesWorld, World, piece_checks, rows_tail, selection_checks, steps}
+use Rattle.sasi_store.specs.Worlds.{ServesWorld, World, piece_checks, rows_tail, selection_checks, steps, told_in}
 use Rattle.sasi_store.specs.declared.fault.StepFault.{StepFault}
 use Rattle.sasi_store.specs.declared.fault.StepFault.TheVariants as fault
+use Rattle.sasi_store.proofs.ListedFrames.{same_stays}
 use Rattle.sasi_store.proofs.MoveCauses.{any_change, none_made}
-use Rattle.sasi_store.proofs.SessionLaws.{LeavesSession, plain_reply, refused_leaves, selected_turns, traced_turns}
+use Rattle.sasi_store.proofs.SessionLaws.{LeavesSession, plain_reply, refused_leaves, selected_turns, tail_checked, traced_turns}
 
 -- ---- a world and its state
 
@@ -140,6 +141,8 @@ module _ {T : Type 0} (kinds : List Class) (a b : View) (old new : StoreInMemory
     unread = λ other. makes.reads;
     reads = λ w serves short. omega (arith, makes.reads);
     changes = makes.changes;
+    files_stay = makes.files_stay;
+    listed_stay = makes.listed_stay;
     causes = record { disk = makes.causes.disk; out = makes.causes.out; ok = makes.causes.ok; failed = tt; others = tt };
   }
 
@@ -161,6 +164,8 @@ module _ {T : Type 0} (kinds : List Class) (a b : View) (old new : StoreInMemory
     unread = λ other. makes.reads;
     reads = λ w serves short. omega (arith, makes.reads);
     changes = makes.changes;
+    files_stay = makes.files_stay;
+    listed_stay = tt;
     causes = record { disk = makes.causes.disk; out = makes.causes.out; ok = tt; failed = makes.causes.failed; others = makes.causes.others };
   }
 
@@ -188,6 +193,8 @@ step_not_made kinds v sound old piece reply e other unspent undamaged missing = 
   unread = λ other. refl;
   reads = λ w serves short. omega arith;
   changes = any_change Same v v (stays v);
+  files_stay = same_stays old.manifest.listing v v (stays v);
+  listed_stay = tt;
   causes = none_made v (Err e) (λ f is same. (let one : e ≡ f = cc in other (one_then one same)));
 }
   where
@@ -215,21 +222,20 @@ step_missing kinds v sound old piece reply asked class is lacks =
     both e = cc
 
 -- it is answered without a move
-step_still : {was trace : Bool} (kinds : List Class) (v : View) (sound : IsSound v) (old : StoreInMemory) (piece : Piece) (reply : List ℕ) (outcome : Outcome) → CanChange v old → asks (known_in_memory old) piece ≡ ask.NoChange
-    → ((s : State) → IsStateOf (known_in_memory old) s → StepsTo s piece s reply outcome)
-    → ((w : World) → ServesWorld v old was w → (trace ≡ (steps.after w piece).session.trace) × (steps.reply w piece ≡ (step (state_of w.layout) piece).reply))
+pub step_quiet : {was trace : Bool} (kinds : List Class) (v : View) (sound : IsSound v) (old : StoreInMemory) (piece : Piece) (reply : List ℕ) (outcome : Outcome) → CanChange v old → asks (known_in_memory old) piece ≡ ask.NoChange
+    → ((s : State) → IsStateOf (known_in_memory old) s → AnsweredButRows old s piece reply outcome)
+    → ((w : World) → ServesWorld v old was w → (trace ≡ (steps.after w piece).session.trace) × (steps.reply w piece ≡ reply))
     → StepPromises kinds piece v v old old was trace reply (Ok outcome)
-step_still kinds v sound old piece reply outcome ready is steps_to turns = record {
+step_quiet kinds v sound old piece reply outcome ready is everywhere turns = record {
   answers = λ w serves.
-      let to = steps_to (state_of w.layout) (state_is v old w.layout serves.serves) in
       let turned = turns w serves in
       record {
         serves = record { serves = subst (λ (ms : List Move). Serves v old (after_moves ms w.layout)) (sym (moves_are v old piece ask.NoChange is w.layout serves.serves)) serves.serves; trace_is = turned.0 };
-        reply_is = sym (turned.1 ∙ to.reply_is);
-        outcome_is = to.outcome_is;
+        reply_is = sym turned.1;
+        outcome_is = (everywhere (state_of w.layout) (state_is v old w.layout serves.serves)).outcome_is;
         unspent = ap (spent w.layout) (moves_are v old piece ask.NoChange is w.layout serves.serves);
       };
-  everywhere = λ s of. answered_as old s s piece reply outcome (steps_to s of) of;
+  everywhere = everywhere;
   ready = ready;
   any_moment = λ w serves. moves_none w.layout v (steps.moves w piece) sound (λ x now. (_, serves.serves.shape x now));
   spent_is = tt;
@@ -243,8 +249,19 @@ step_still kinds v sound old piece reply outcome ready is steps_to turns = recor
   unread = λ other. refl;
   reads = λ w serves short. omega arith;
   changes = any_change Same v v (stays v);
+  files_stay = same_stays old.manifest.listing v v (stays v);
+  listed_stay = λ table f has. has;
   causes = none_made v (Ok outcome) (λ e same. cc);
 }
+
+-- and its whole reply was known from the state
+step_still : {was trace : Bool} (kinds : List Class) (v : View) (sound : IsSound v) (old : StoreInMemory) (piece : Piece) (reply : List ℕ) (outcome : Outcome) → CanChange v old → asks (known_in_memory old) piece ≡ ask.NoChange
+    → ((s : State) → IsStateOf (known_in_memory old) s → StepsTo s piece s reply outcome)
+    → ((w : World) → ServesWorld v old was w → (trace ≡ (steps.after w piece).session.trace) × (steps.reply w piece ≡ (step (state_of w.layout) piece).reply))
+    → StepPromises kinds piece v v old old was trace reply (Ok outcome)
+step_still kinds v sound old piece reply outcome ready is steps_to turns =
+    step_quiet kinds v sound old piece reply outcome ready is (λ s of. answered_as old s s piece reply outcome (steps_to s of) of)
+    (λ w serves. let turned = turns w serves in (turned.0, turned.1 ∙ (steps_to (state_of w.layout) (state_is v old w.layout serves.serves)).reply_is))
 
 -- a piece that is refused, or has no reply, leaves the session,
 pub step_answered : {was : Bool} (kinds : List Class) (v : View) (sound : IsSound v) (old : StoreInMemory) (piece : Piece) (reply : List ℕ) (outcome : Outcome) → CanChange v old → asks (known_in_memory old) piece ≡ ask.NoChange
@@ -312,14 +329,15 @@ select_turns w piece rows was reply to says on reply_is =
     let s = state_of w.layout in
     let turned = selected_turns s piece rows says in (
       on ∙ ap (λ (x : SessionState). x.trace) (sym (turned.session_is w.session)),
-      ap (λ (tail : Tail). (step s piece).reply ++ tail_bytes tail (piece_checks w.layout (read piece))) (turned.tail_is w.session)
+      ap (λ (tail : Tail). (step s piece).reply ++ tail_bytes tail (told_in w.layout (read piece))) (turned.tail_is w.session)
+          ∙ ap (λ (end : List ℕ). (step s piece).reply ++ end) (tail_checked w.session.trace (told_in w.layout (read piece)))
           ∙ ap (λ (b : Bool). (step s piece).reply ++ rows_tail b (piece_checks w.layout (read piece))) (sym on)
           ∙ ap (λ (n : ℕ). (step s piece).reply ++ rows_tail was n) (select_checks w.layout s piece rows (sym (definitions_are w.layout)) says)
           ∙ ap (λ (front : List ℕ). front ++ rows_tail was (selection_checks w.layout rows)) to.reply_is
           ∙ sym reply_is,
     )
 
-none_refused : (o : Option Refusal) → Done ≡ outcome_of o → o ≡ None
+pub none_refused : (o : Option Refusal) → Done ≡ outcome_of o → o ≡ None
 none_refused None done = refl
 none_refused (Some r) done = cc
 
@@ -384,7 +402,7 @@ module _ {was : Bool} (kinds : List Class) (a b : View) (sound : IsSound a) (old
         record {
           state_is = subst (IsStateOf (known_in_memory old)) (sym to.0) of;
           outcome_is = to.1;
-          reply_is = λ other. absurd (other (query, none_refused (step s piece).refused to.1));
+          reply_is = λ other. absurd (other (inl query, none_refused (step s piece).refused to.1));
         };
     ready = ready_same a b change old ready;
     any_moment = moments;
@@ -399,6 +417,8 @@ module _ {was : Bool} (kinds : List Class) (a b : View) (sound : IsSound a) (old
     unread = λ other. absurd (other query);
     reads = costs;
     changes = any_change Same a b change;
+    files_stay = same_stays old.manifest.listing a b change;
+    listed_stay = λ table f has. has;
     causes = record { disk = causes.disk; out = causes.out; ok = causes.ok; failed = tt; others = tt };
   }
 
@@ -421,6 +441,8 @@ module _ {was : Bool} (kinds : List Class) (a b : View) (sound : IsSound a) (old
     unread = λ other. absurd (other query);
     reads = costs;
     changes = any_change Same a b change;
+    files_stay = same_stays old.manifest.listing a b change;
+    listed_stay = tt;
     causes = record { disk = causes.disk; out = causes.out; ok = tt; failed = causes.failed; others = causes.others };
   }
 
@@ -428,17 +450,3 @@ module _ {was : Bool} (kinds : List Class) (a b : View) (sound : IsSound a) (old
 pub trace_left : {kinds : List Class} {piece : Piece} {a b : View} {old new : StoreInMemory} {was trace later : Bool} {reply : List ℕ} {result : Result Outcome StepFault} → later ≡ trace
     → StepPromises kinds piece a b old new was trace reply result → StepPromises kinds piece a b old new was later reply result
 trace_left {kinds} {piece} {a} {b} {old} {new} {was} {trace} {later} {reply} {result} same promises = subst (λ (on : Bool). StepPromises kinds piece a b old new was on reply result) (sym same) promises
-
--- ---- pieces that need no file
-
-refused_not : (o : Option Refusal) → Done ≡ outcome_of o → IsSome o → ⊥
-refused_not None done some = cc
-refused_not (Some r) done some = cc
-
--- a piece that isn't refused and is a statement needs more
-pub needs_more : (s : State) (piece : Piece) (P : Statement → Type 0) → Done ≡ outcome_of (step s piece).refused → SaysOne piece P → NeedsNoFile s piece → ⊥
-needs_more s piece P done says (inl refused) = refused_not (step s piece).refused done refused
-needs_more s piece P done says (inr nothing) = nothing_said (sym nothing ∙ says.1)
-  where
-    nothing_said : {statement : Statement} → Nothing ≡ Says statement → ⊥
-    nothing_said e = cc

@@ -1,17 +1,18 @@
 -- What a step answers, for each world that the store serves.
-use Rattle.std.specs.Prelude.{◌≡◌, Bool, ℕ, List, None}
+use Rattle.std.specs.Prelude.{◌≡◌, ◌⊎◌, ⊤, Bool, ℕ, List, None}
 use Rattle.sasi_host.specs.View.{View}
 use Rattle.sasi_layout.specs.Layout.{state_of}
 use Rattle.sasi_layout.specs.Serving.{StoreInMemory, known_in_memory}
 use Rattle.sasi_layout.specs.Spent.{spent}
 use Rattle.sasi_machine.specs.Outcome.{outcome_of}
-use Rattle.sasi_machine.specs.Prepares.{IsQuery, IsRefusedOrEmpty, IsStateOf}
+use Rattle.sasi_machine.specs.Prepares.{IsQuery, IsRefusedOrEmpty, IsShowFiles, IsStateOf}
 use Rattle.sasi_machine.specs.declared.outcome.Outcome.{Outcome}
 use Rattle.sasi_model.specs.Parsers.{Parser, grammar_parser}
 use Rattle.sasi_model.specs.Pieces.{Piece}
-use Rattle.sasi_model.specs.Refusals.{read_by}
+use Rattle.sasi_model.specs.Refusals.{ParsedPiece, Says, read, read_by}
 use Rattle.sasi_model.specs.State.{State}
 use Rattle.sasi_model.specs.Step.{step, step_by}
+use Rattle.sasi_types.specs.declared.statement.Statement.TheVariants.{ShowFiles, Trace}
 use Rattle.sasi_store.specs.Worlds.{ServesWorld, World, steps}
 
 -- The store serves the world after the piece, the reply is that of the world's step, the outcome that of the model's, and no number that the piece needs is spent.
@@ -21,16 +22,22 @@ pub record Answered (v : View) (store : StoreInMemory) (trace : Bool) (w : World
   pub outcome_is : outcome ≡ outcome_of (step (state_of w.layout) piece).refused
   pub unspent : spent w.layout (steps.moves w piece) ≡ None
 
--- a SELECT that isn't refused: its reply has rows, which may come from files
-abbrev pub PrintsRows : Parser → State → Piece → Type 0
-PrintsRows parser s piece = IsQuery (read_by parser piece) × ((step_by parser s piece).refused ≡ None)
+-- A SELECT or SHOW FILES that isn't refused: what it prints comes from the files, or tells of them.
+abbrev pub PrintsStored : Parser → State → Piece → Type 0
+PrintsStored parser s piece = (IsQuery (read_by parser piece) ⊎ IsShowFiles (read_by parser piece)) × ((step_by parser s piece).refused ≡ None)
 
--- Whatever the files are: the outcome is that of the model's step, and so is the reply, but where it has rows. The store has the definitions and the largest timestamp of the state after the piece.
+-- Whatever the files are: the outcome is that of the model's step, and so is the reply, but where it comes from the files or tells of them. The store has the definitions and the largest timestamp of the state after the piece.
 pub record AnsweredButRows (store : StoreInMemory) (s : State) (piece : Piece) (reply : List ℕ) (outcome : Outcome) : Type 0 where
   pub state_is : IsStateOf (known_in_memory store) (step s piece).state
   pub outcome_is : outcome ≡ outcome_of (step s piece).refused
-  pub reply_is : ¬ (PrintsRows grammar_parser s piece) → reply ≡ (step s piece).reply
+  pub reply_is : ¬ (PrintsStored grammar_parser s piece) → reply ≡ (step s piece).reply
 
--- the piece is refused, or has no reply
+-- SHOW FILES, which tells what is in memory, or TRACE
+abbrev pub AsksNoFile : ParsedPiece → Type 0
+AsksNoFile (Says ShowFiles) = ⊤
+AsksNoFile (Says (Trace on)) = ⊤
+AsksNoFile parsed = ⊥
+
+-- the piece is refused, has no reply, or is one of those
 abbrev pub NeedsNoFile : State → Piece → Type 0
-NeedsNoFile = IsRefusedOrEmpty
+NeedsNoFile s piece = IsRefusedOrEmpty s piece ⊎ AsksNoFile (read piece)

@@ -16,3 +16,4 @@ pub mod Numbers
 pub mod FlushDraws
 pub mod Flushing
 pub mod ViewParts
+pub mod Frames

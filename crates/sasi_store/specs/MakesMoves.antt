@@ -10,6 +10,7 @@ use Rattle.sasi_layout.specs.Spent.{spent}
 use Rattle.sasi_model.specs.State.{Definition}
 use Rattle.sasi_recover.specs.OpenedFolder.{AnyFolderChange}
 use Rattle.sasi_store.specs.Faults.{OnMissing, OnSpent, OnStepDamage, StepCauses}
+use Rattle.sasi_store.specs.Frames.{KeepsFilesOf, KeepsListed}
 use Rattle.sasi_store.specs.declared.fault.StepFault.{StepFault}
 
 -- what the store knows of its state without its files
@@ -31,5 +32,8 @@ pub record MakesMoves {T : Type 0} (moves : MovesOf) (a b : View) (old new : Sto
   pub undamaged : IfErr result (OnStepDamage (λ _. ⊥))
   pub present : IfErr result (OnMissing (λ _. ⊥))
   pub changes : Changes AnyFolderChange a b
+  -- the files that are listed before it stay, also where it fails; where it doesn't, they stay listed
+  pub files_stay : Changes (KeepsListed old.manifest.listing) a b
+  pub listed_stay : OnOk result (KeepsFilesOf old.manifest.listing new.manifest.listing)
   pub reads : b.reads ≡ a.reads
   pub causes : StepCauses a b result

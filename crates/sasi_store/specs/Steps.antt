@@ -18,6 +18,7 @@ use Rattle.sasi_model.specs.State.{State}
 use Rattle.sasi_recover.specs.OpenedFolder.{AnyFolderChange}
 use Rattle.sasi_store.specs.Answers.{Answered, AnsweredButRows}
 use Rattle.sasi_store.specs.Faults.{OnMissing, OnSpent, OnStepDamage, StepCauses}
+use Rattle.sasi_store.specs.Frames.{KeepsFilesOf, KeepsListed}
 use Rattle.sasi_store.specs.Selects.{HasShortRows, select_reads}
 use Rattle.sasi_store.specs.Worlds.{ServesWorld, World, steps}
 use Rattle.sasi_store.specs.declared.fault.StepFault.{StepFault}
@@ -40,4 +41,7 @@ pub record StepPromises (kinds : List Class) (piece : Piece) (a b : View) (old n
   pub unread : (IsQuery (read piece) → ⊥) → b.reads ≡ a.reads
   pub reads : (w : World) → ServesWorld a old was w → HasShortRows a.files w.layout (read piece) → b.reads ≤ a.reads + select_reads a.files w.layout (read piece)
   pub changes : Changes AnyFolderChange a b
+  -- the files that are listed before it stay, also where it fails; where it doesn't, they stay listed
+  pub files_stay : Changes (KeepsListed old.manifest.listing) a b
+  pub listed_stay : OnOk result (KeepsFilesOf old.manifest.listing new.manifest.listing)
   pub causes : StepCauses a b result

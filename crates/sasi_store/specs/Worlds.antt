@@ -1,13 +1,15 @@
 -- What a run goes through: a layout and a session, and what a piece makes of them.
-use Rattle.std.specs.Prelude.{◌≡◌, ◌-◌, ◌^◌, ℕ, Bool, if◌then◌else◌, min, List, slice_get, refl}
+use Rattle.std.specs.Prelude.{◌≡◌, ◌-◌, ◌^◌, ℕ, Bool, if◌then◌else◌, map, min, List, [], slice_get, refl}
 use Rattle.std.specs.Option.{option_map_or}
 use Rattle.sasi_host.specs.View.{View}
 use Rattle.sasi_model.specs.Filters.{row_limit, where_of}
 use Rattle.sasi_model.specs.Parsers.{Parser, grammar_parser}
 use Rattle.sasi_model.specs.Refusals.{ParsedPiece, Says, read_by}
-use Rattle.sasi_model.specs.Sessions.{CheckedTail, NoTail, SessionState, new_session, reply_by, session_by, tail_bytes}
+use Rattle.sasi_model.specs.Sessions.{CheckedTail, NoTail, SessionState, Told, new_session, reply_by, session_by, tail_bytes}
 use Rattle.sasi_schema.specs.Numbers.{number_of_table}
 use Rattle.sasi_types.specs.declared.statement.Statement.TheVariants.{Query}
+use Rattle.sasi_host.specs.declared.name.FileName.{FileName}
+use Rattle.sasi_layout.specs.FileNames.{file_names}
 use Rattle.sasi_layout.specs.Layout.{Layout, TableParts, state_of}
 use Rattle.sasi_layout.specs.Moves.{after_moves}
 use Rattle.sasi_layout.specs.Serving.{Serves, StoreInMemory}
@@ -16,6 +18,8 @@ use Rattle.sasi_layout.specs.Transitions.{Transitions}
 use Rattle.sasi_machine.specs.declared.prepared.Selection.{Selection}
 use Rattle.sasi_candidates.specs.Checks.{checked}
 use Rattle.sasi_candidates.specs.LayoutParts.{parts_of}
+use Rattle.sasi_print.specs.Files.{file_text}
+use Rattle.sasi_print.specs.declared.file_lines.FileState.TheVariants.{Current}
 use Rattle.sasi_store.specs.Selects.{conditions_on}
 
 pub record World : Type 0 where
@@ -38,19 +42,37 @@ abbrev pub piece_checks : Layout → ParsedPiece → ℕ
 piece_checks l (Says (Query select)) = option_map_or (λ number. selection_checks l (record { table = number; select = select })) (number_of_table select.table (definitions_of l)) 0
 piece_checks l parsed = 0
 
+-- this number alone is told
+abbrev pub told_checked : ℕ → Told
+told_checked n = record { checked = n; files = [] }
+
 -- what the reply of a SELECT ends with, where TRACE is on or off
 abbrev pub rows_tail : Bool → ℕ → List ℕ
-rows_tail trace n = tail_bytes (if trace then CheckedTail else NoTail) n
+rows_tail trace n = tail_bytes (if trace then CheckedTail else NoTail) (told_checked n)
+
+-- ---- files
+
+-- these files, each current and held by no cursor
+abbrev pub current_texts : List FileName → List (List ℕ)
+current_texts names = map (λ (name : FileName). file_text name Current 0) names
+
+-- **What SHOW FILES tells of a layout**: each data and index file that it has, in their order
+abbrev pub file_texts : Layout → List (List ℕ)
+file_texts l = current_texts (file_names l)
+
+-- what is told of a layout in the reply to a piece
+abbrev pub told_in : Layout → ParsedPiece → Told
+told_in l parsed = record { checked = piece_checks l parsed; files = file_texts l }
 
 -- ---- steps
 
--- By a parser: the moves are those of the layout. The reply is the model's at its state and session; where its tail has a number, it is that of the candidates.
+-- By a parser: the moves are those of the layout. The reply is the model's at its state and session; where its tail tells of the candidates or of the files, they are those of the layout.
 abbrev pub steps_by : Parser → Transitions World
 steps_by parser = record {
   layout = λ w. w.layout;
   moves = λ w piece. moves_by parser w.layout piece;
   after = λ w piece. record { layout = after_moves (moves_by parser w.layout piece) w.layout; session = session_by parser w.session (state_of w.layout) piece };
-  reply = λ w piece. reply_by parser w.session (state_of w.layout) piece (piece_checks w.layout (read_by parser piece));
+  reply = λ w piece. reply_by parser w.session (state_of w.layout) piece (told_in w.layout (read_by parser piece));
   layout_is = λ w piece. refl;
 }
 

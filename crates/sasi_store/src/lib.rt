@@ -16,6 +16,7 @@ mod parts;
 mod rows;
 mod select;
 mod session_state;
+mod show_files;
 mod step;
 mod store;
 mod table_maps;

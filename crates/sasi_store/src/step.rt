@@ -16,6 +16,7 @@ use crate::flush_table::flush_unless_empty;
 use crate::parts::Parts;
 use crate::select::select;
 use crate::session_state::SessionState;
+use crate::show_files::show_files;
 use crate::write::write;
 use sasi_analyzers::Kit;
 use sasi_host::Host;
@@ -78,6 +79,10 @@ pub fn step<H: Host>(
         }
         Prepared::Trace(on) => {
             session.trace = on;
+            Ok(Outcome::Done)
+        }
+        Prepared::Files => {
+            show_files(parts, &session.views, reply)?;
             Ok(Outcome::Done)
         }
     }

@@ -22,6 +22,7 @@ ghost use Rattle.sasi_recover.specs.OpenedFolder.{AnyFolderChange};
 ghost use Rattle.sasi_recover.specs.Promises.{OpensSafely, ReportsTruly};
 ghost use Rattle.sasi_store.specs.Answers.{Answered, AnsweredButRows, NeedsNoFile};
 ghost use Rattle.sasi_store.specs.Faults.{OnMissing as OnMissingClass, OnSpent, OnStepDamage, StepCauses};
+ghost use Rattle.sasi_store.specs.Frames.{KeepsFilesOf, KeepsListed};
 ghost use Rattle.sasi_store.specs.Selects.{HasShortRows, select_reads};
 ghost use Rattle.sasi_store.specs.StoreView.{IsReady};
 ghost use Rattle.sasi_store.specs.Worlds.{ServesWorld, World, new_world, steps};
@@ -132,6 +133,9 @@ impl Store {
         // The bound on what a SELECT reads supposes files of at most 2^40 bytes where a relation is on an indexed column.
         ensures reads { (w : World) → ServesWorld (H.view host.old) self.old.memory self.old.trace w → HasShortRows (H.view host.old).files w.layout (read (piece_of end piece.now)) → (H.view host.new).reads ≤ (H.view host.old).reads + select_reads (H.view host.old).files w.layout (read (piece_of end piece.now)) }
         ensures changes { Changes AnyFolderChange (H.view host.old) (H.view host.new) }
+        // The files that are listed before the step stay, also where it fails; where it doesn't, they stay listed.
+        ensures files_stay { Changes (KeepsListed self.old.memory.manifest.listing) (H.view host.old) (H.view host.new) }
+        ensures listed_stay { OnOk result (KeepsFilesOf self.old.memory.manifest.listing self.new.memory.manifest.listing) }
         ensures usable { self.new.usable ≡ is_ok result }
         ensures steps { self.new.steps ≡ counted self.old.steps }
         ensures causes { StepCauses (H.view host.old) (H.view host.new) result }

@@ -1,5 +1,5 @@
-//! Tests of the crates below any host: sasi_types, sasi_cells, sasi_fields, sasi_schema, the splitter of sasi_cql, sasi_print and the row
-//! queries of sasi_machine. What a run shows of them is tested by sasi_scripts, and what the parser reads by sasi_language.
+//! Tests of the crates below any host: sasi_types, sasi_cells, sasi_fields, sasi_schema, the splitter of sasi_cql, sasi_print, and the
+//! preparations and row queries of sasi_machine. What a run shows of them is tested by sasi_scripts, and what the parser reads by sasi_language.
 #![tactic(auto)]
 
 #[cfg(test)]
@@ -10,6 +10,8 @@ mod definitions;
 mod fields;
 #[cfg(test)]
 mod indexes;
+#[cfg(test)]
+mod preparations;
 #[cfg(test)]
 mod print;
 #[cfg(test)]

@@ -1,6 +1,10 @@
 //! The lines of replies, each call once.
 use sasi_cells::{Partition, Picked, PickedColumn, PickedList};
-use sasi_print::{Reply, checked, count, ok, picked_row, refusal, refusal_about, refusal_at, row};
+use sasi_host::{FileName, Kind};
+use sasi_print::{
+    FileState, Reply, checked, count, file_count, file_line, ok, picked_row, refusal,
+    refusal_about, refusal_at, row,
+};
 use sasi_types::{Cell, ColumnType, Key, Row, Text, Value};
 use std::alloc::Global;
 use std::process::Abort;
@@ -19,6 +23,27 @@ fn reply_keeps_its_lines_until_it_is_cleared(rt: HostRuntime) {
     check_lines(&rt, &reply, "ok\n(2 rows)\nchecked 17\n");
     reply.clear();
     check_lines(&rt, &reply, "");
+}
+
+#[test]
+fn file_has_its_name_its_state_and_its_cursors(rt: HostRuntime) {
+    let index = FileName {
+        kind: Kind::Index,
+        number: 7,
+        index: 2,
+        part: 5,
+    };
+    let mut reply = Reply::new(rt.alloc());
+    file_line(&mut reply, FileName::data(7), FileState::Current, 0).expect(&rt, "memory");
+    file_line(&mut reply, index, FileState::Obsolete, 4_294_967_295).expect(&rt, "memory");
+    file_line(&mut reply, FileName::data(8), FileState::Building, 1).expect(&rt, "memory");
+    file_count(&mut reply, 3).expect(&rt, "memory");
+    let want = "data-7 current pinned 0
+index-7-2-5 obsolete pinned 4294967295
+data-8 building pinned 1
+(3 files)
+";
+    check_lines(&rt, &reply, want);
 }
 
 #[test]

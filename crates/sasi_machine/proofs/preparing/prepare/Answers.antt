@@ -3,7 +3,7 @@ use Rattle.sasi_machine.specs.ParsedPiece.{IsReadFrom, model_piece}
 use Rattle.sasi_machine.specs.Refusal.{refusal_of}
 use Rattle.sasi_machine.specs.Prepares.{known_by}
 use Rattle.sasi_machine.proofs.PreparedPieces.{bad_refused, bad_steps, nothing_steps}
-use Rattle.sasi_machine.proofs.StatementPreparing.{piece_asks, piece_prepares, piece_selects, piece_timeless}
+use Rattle.sasi_machine.proofs.StatementPreparing.{piece_asks, piece_lists, piece_prepares, piece_selects, piece_timeless}
 use Rattle.sasi_machine.proofs.preparing.prepare.Goals as goal
 
 pub returns-in-Nothing-clause-prepares : goal.returns-in-Nothing-clause-prepares
@@ -49,4 +49,15 @@ returns-in_ok-outcome-in-Bad-clause-selects g c = λ none. absurd none
 pub returns-in-Says-clause-selects : goal.returns-in-Says-clause-selects
 returns-in-Says-clause-selects g c =
     piece_selects (known_by c.args.schema.now c.args.max_timestamp) _ c.in-Says.statement c.clear.new.self c.prepare_statement.new.reply c.prepare_statement.result
+    (sym c.in_ok-read.ensures.reads ∙ ap model_piece c.in-Says.is) c.prepare_statement.ensures.prepares
+
+pub returns-in-Nothing-clause-lists : goal.returns-in-Nothing-clause-lists
+returns-in-Nothing-clause-lists g c = λ none. absurd none
+
+pub returns-in_ok-outcome-in-Bad-clause-lists : goal.returns-in_ok-outcome-in-Bad-clause-lists
+returns-in_ok-outcome-in-Bad-clause-lists g c = λ none. absurd none
+
+pub returns-in-Says-clause-lists : goal.returns-in-Says-clause-lists
+returns-in-Says-clause-lists g c =
+    piece_lists (known_by c.args.schema.now c.args.max_timestamp) _ c.in-Says.statement c.clear.new.self c.prepare_statement.new.reply c.prepare_statement.result
     (sym c.in_ok-read.ensures.reads ∙ ap model_piece c.in-Says.is) c.prepare_statement.ensures.prepares

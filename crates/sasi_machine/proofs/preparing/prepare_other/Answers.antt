@@ -23,3 +23,9 @@ pub returns-in-Trace : goal.returns-in-Trace
 returns-in-Trace c =
     subst (λ (statement : Statement). IfOk c.prepare_trace.result (IsPreparedFor (known_by c.args.schema.now c.args.builder.now.max_timestamp) statement c.args.reply.now c.prepare_trace.new.reply)) (sym c.in-Trace.is)
     (for_every (known_by c.args.schema.now c.args.builder.now.max_timestamp) _ c.args.reply.now c.prepare_trace.new.reply c.prepare_trace.result c.prepare_trace.ensures)
+
+pub returns-in-ShowFiles : goal.returns-in-ShowFiles
+returns-in-ShowFiles c =
+    let known = known_by c.args.schema.now c.args.builder.now.max_timestamp in
+    subst (λ (statement : Statement). IsPreparedFor known statement c.args.reply.now c.args.reply.now c.prepare_files.result) (sym c.in-ShowFiles.is)
+    (record { now = c.prepare_files.ensures known c.args.reply.now; timeless = λ timeless other. c.prepare_files.ensures (record known { max_timestamp = other }) c.args.reply.now })

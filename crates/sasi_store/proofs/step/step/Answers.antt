@@ -4,7 +4,7 @@ use Rattle.sasi_cells.specs.Mutations.{state_with_mutation}
 use Rattle.sasi_layout.proofs.ClassLaws.{known_created, known_defined}
 use Rattle.sasi_layout.specs.Classes.{HasNeeded, KnowsClasses, LacksNeeded}
 use Rattle.sasi_layout.specs.Layout.{state_of}
-use Rattle.sasi_machine.specs.Prepares.{SelectsRows, answer_rows}
+use Rattle.sasi_machine.specs.Prepares.{answer_rows}
 use Rattle.sasi_model.specs.Asked as ask
 use Rattle.sasi_model.specs.Asked.{class_needed}
 use Rattle.sasi_model.specs.Changes.{state_with_index, with_new_table}
@@ -16,7 +16,9 @@ use Rattle.sasi_store.specs.StoreView.{memory_of}
 use Rattle.sasi_store.specs.Worlds.{rows_tail, selection_checks}
 use Rattle.sasi_store.proofs.Known.{created_state, defined_state, known_after, known_as, written_state}
 use Rattle.sasi_store.proofs.Prepared.{HasPrepared, blank, blank_definitions, creatable, definable, has_table_for, new_unindexed, selectable, writable}
-use Rattle.sasi_store.proofs.Stepping.{needs_more, select_answered, select_failed, select_turns, select_within, state_is, step_answered, step_failed, step_made, step_missing, step_traced, step_unprepared, trace_left}
+use Rattle.sasi_store.proofs.NoFile.{UsesHost, needs_host}
+use Rattle.sasi_store.proofs.StepFiles.{step_listed}
+use Rattle.sasi_store.proofs.Stepping.{select_answered, select_failed, select_turns, select_within, state_is, step_answered, step_failed, step_full, step_made, step_missing, step_traced, step_unprepared, trace_left}
 use Rattle.sasi_store.proofs.SessionLaws.{created_leaves, defined_leaves, flushed_leaves, written_leaves}
 use Rattle.sasi_store.proofs.step.step.Goals as goal
 
@@ -239,23 +241,62 @@ returns-in_ok-define-in-Define-clause-steps g c =
     (λ known. known_after (map (λ b. (goal.Analyzer-dyn g (b.vtable, b.value)).kind b.value) c.args.kit.now.objects.items) (memory_of c.define.new.parts) _ _ c.in_ok-define-in-Define.ensures.knows (known_defined (map (λ b. (goal.Analyzer-dyn g (b.vtable, b.value)).kind b.value) c.args.kit.now.objects.items) parts.schema.definitions c.in-Define.index.table (index_of_new c.in-Define.index) (subst (λ (kinds : List Class). HasNeeded kinds (class_needed (ask.Defines c.in-Define.index.table (index_of_new c.in-Define.index)))) c.prepare.ensures.kinds c.in_ok-check_class-in-Define.ensures.there) known))
     (subst (λ (kinds : List Class). HasNeeded kinds (class_needed (ask.Defines c.in-Define.index.table (index_of_new c.in-Define.index)))) c.prepare.ensures.kinds c.in_ok-check_class-in-Define.ensures.there)
 
+-- ---- pieces that need no file
+
+pub returns-in_err-create-in-Create-clause-no_file_call : goal.returns-in_err-create-in-Create-clause-no_file_call
+returns-in_err-create-in-Create-clause-no_file_call g c s of needs =
+    let piece = piece_of c.args.end c.args.piece.now in
+    absurd (needs_host s piece c.prepare.new.reply c.in_ok-outcome.field-0 (c.in_ok-outcome.ensures.prepares s of) (subst UsesHost (sym c.in-Create.is) tt) needs)
+
+pub returns-in_ok-create-in-Create-clause-no_file_call : goal.returns-in_ok-create-in-Create-clause-no_file_call
+returns-in_ok-create-in-Create-clause-no_file_call g c s of needs =
+    let piece = piece_of c.args.end c.args.piece.now in
+    absurd (needs_host s piece c.prepare.new.reply c.in_ok-outcome.field-0 (c.in_ok-outcome.ensures.prepares s of) (subst UsesHost (sym c.in-Create.is) tt) needs)
+
+pub returns-in_err-check_class-in-Define-clause-no_file_call : goal.returns-in_err-check_class-in-Define-clause-no_file_call
+returns-in_err-check_class-in-Define-clause-no_file_call g c s of needs =
+    let piece = piece_of c.args.end c.args.piece.now in
+    absurd (needs_host s piece c.prepare.new.reply c.in_ok-outcome.field-0 (c.in_ok-outcome.ensures.prepares s of) (subst UsesHost (sym c.in-Define.is) tt) needs)
+
+pub returns-in_err-define-in-Define-clause-no_file_call : goal.returns-in_err-define-in-Define-clause-no_file_call
+returns-in_err-define-in-Define-clause-no_file_call g c s of needs =
+    let piece = piece_of c.args.end c.args.piece.now in
+    absurd (needs_host s piece c.prepare.new.reply c.in_ok-outcome.field-0 (c.in_ok-outcome.ensures.prepares s of) (subst UsesHost (sym c.in-Define.is) tt) needs)
+
+pub returns-in_ok-define-in-Define-clause-no_file_call : goal.returns-in_ok-define-in-Define-clause-no_file_call
+returns-in_ok-define-in-Define-clause-no_file_call g c s of needs =
+    let piece = piece_of c.args.end c.args.piece.now in
+    absurd (needs_host s piece c.prepare.new.reply c.in_ok-outcome.field-0 (c.in_ok-outcome.ensures.prepares s of) (subst UsesHost (sym c.in-Define.is) tt) needs)
+
+pub returns-in_err-write-in-Write-clause-no_file_call : goal.returns-in_err-write-in-Write-clause-no_file_call
+returns-in_err-write-in-Write-clause-no_file_call g c s of needs =
+    let piece = piece_of c.args.end c.args.piece.now in
+    absurd (needs_host s piece c.prepare.new.reply c.in_ok-outcome.field-0 (c.in_ok-outcome.ensures.prepares s of) (subst UsesHost (sym c.in-Write.is) tt) needs)
+
+pub returns-in_ok-write-in-Write-clause-no_file_call : goal.returns-in_ok-write-in-Write-clause-no_file_call
+returns-in_ok-write-in-Write-clause-no_file_call g c s of needs =
+    let piece = piece_of c.args.end c.args.piece.now in
+    absurd (needs_host s piece c.prepare.new.reply c.in_ok-outcome.field-0 (c.in_ok-outcome.ensures.prepares s of) (subst UsesHost (sym c.in-Write.is) tt) needs)
+
+pub returns-in_err-flush_unless_empty-in-Flush-clause-no_file_call : goal.returns-in_err-flush_unless_empty-in-Flush-clause-no_file_call
+returns-in_err-flush_unless_empty-in-Flush-clause-no_file_call g c s of needs =
+    let piece = piece_of c.args.end c.args.piece.now in
+    absurd (needs_host s piece c.prepare.new.reply c.in_ok-outcome.field-0 (c.in_ok-outcome.ensures.prepares s of) (subst UsesHost (sym c.in-Flush.is) tt) needs)
+
+pub returns-in_ok-flush_unless_empty-in-Flush-clause-no_file_call : goal.returns-in_ok-flush_unless_empty-in-Flush-clause-no_file_call
+returns-in_ok-flush_unless_empty-in-Flush-clause-no_file_call g c s of needs =
+    let piece = piece_of c.args.end c.args.piece.now in
+    absurd (needs_host s piece c.prepare.new.reply c.in_ok-outcome.field-0 (c.in_ok-outcome.ensures.prepares s of) (subst UsesHost (sym c.in-Flush.is) tt) needs)
+
 pub returns-in_err-select-in-Select-clause-no_file_call : goal.returns-in_err-select-in-Select-clause-no_file_call
 returns-in_err-select-in-Select-clause-no_file_call g c s of needs =
-    let parts = c.args.parts.now in
     let piece = piece_of c.args.end c.args.piece.now in
-    let e = c.in_ok-outcome.ensures in
-    let all : HasPrepared parts piece c.prepare.new.reply c.in_ok-outcome.field-0 = record { asked = e.asked; prepares = e.prepares; timeless = e.timeless; selects = e.selects } in
-    let prepared = (subst (HasPrepared parts piece c.prepare.new.reply) c.in-Select.is all).prepares s of in
-    absurd (needs_more s piece (λ statement. SelectsRows s statement c.in-Select.rows) prepared.0.outcome_is prepared.3 needs)
+    absurd (needs_host s piece c.prepare.new.reply c.in_ok-outcome.field-0 (c.in_ok-outcome.ensures.prepares s of) (subst UsesHost (sym c.in-Select.is) tt) needs)
 
 pub returns-in_ok-select-in-Select-clause-no_file_call : goal.returns-in_ok-select-in-Select-clause-no_file_call
 returns-in_ok-select-in-Select-clause-no_file_call g c s of needs =
-    let parts = c.args.parts.now in
     let piece = piece_of c.args.end c.args.piece.now in
-    let e = c.in_ok-outcome.ensures in
-    let all : HasPrepared parts piece c.prepare.new.reply c.in_ok-outcome.field-0 = record { asked = e.asked; prepares = e.prepares; timeless = e.timeless; selects = e.selects } in
-    let prepared = (subst (HasPrepared parts piece c.prepare.new.reply) c.in-Select.is all).prepares s of in
-    absurd (needs_more s piece (λ statement. SelectsRows s statement c.in-Select.rows) prepared.0.outcome_is prepared.3 needs)
+    absurd (needs_host s piece c.prepare.new.reply c.in_ok-outcome.field-0 (c.in_ok-outcome.ensures.prepares s of) (subst UsesHost (sym c.in-Select.is) tt) needs)
 
 -- ---- TRACE
 
@@ -268,3 +309,19 @@ returns-in-Trace-clause-steps g c =
     let all : HasPrepared parts piece c.prepare.new.reply c.in_ok-outcome.field-0 = record { asked = e.asked; prepares = e.prepares; timeless = e.timeless; selects = e.selects } in
     let has = subst (HasPrepared parts piece c.prepare.new.reply) c.in-Trace.is all in
     step_traced (map (λ b. (goal.Analyzer-dyn g (b.vtable, b.value)).kind b.value) c.args.kit.now.objects.items) v (g.met.H.Host.sound c.args.host.now) (memory_of parts) piece c.prepare.new.reply c.in-Trace.on c.requires.ready has.asked has.prepares
+
+-- ---- SHOW FILES
+
+pub returns-in_err-show_files-in-Files-clause-steps : goal.returns-in_err-show_files-in-Files-clause-steps
+returns-in_err-show_files-in-Files-clause-steps g c =
+    let p = err_from_is_err_and c.from_residual-in_err-show_files-in-Files.result c.from_residual-in_err-show_files-in-Files.ensures.1 in
+    rw (p.1, p.2) (step_full (map (λ b. (goal.Analyzer-dyn g (b.vtable, b.value)).kind b.value) c.args.kit.now.objects.items) (g.H.Host.view c.args.host.now) (g.met.H.Host.sound c.args.host.now) (memory_of c.args.parts.now) (piece_of c.args.end c.args.piece.now) c.show_files.new.reply)
+
+pub returns-in_ok-show_files-in-Files-clause-steps : goal.returns-in_ok-show_files-in-Files-clause-steps
+returns-in_ok-show_files-in-Files-clause-steps g c =
+    let parts = c.args.parts.now in
+    let piece = piece_of c.args.end c.args.piece.now in
+    let e = c.in_ok-outcome.ensures in
+    let all : HasPrepared parts piece c.prepare.new.reply c.in_ok-outcome.field-0 = record { asked = e.asked; prepares = e.prepares; timeless = e.timeless; selects = e.selects } in
+    let has = subst (HasPrepared parts piece c.prepare.new.reply) c.in-Files.is all in
+    step_listed (map (λ b. (goal.Analyzer-dyn g (b.vtable, b.value)).kind b.value) c.args.kit.now.objects.items) (g.H.Host.view c.args.host.now) (g.met.H.Host.sound c.args.host.now) (memory_of parts) piece c.prepare.new.reply c.show_files.new.reply c.requires.ready has.asked has.prepares c.in_ok-show_files-in-Files.ensures

@@ -4,6 +4,7 @@ use Rattle.sasi_host.specs.Disk.{Changes}
 use Rattle.sasi_layout.specs.Between.{Between}
 use Rattle.sasi_model.specs.Pieces.{piece_of}
 use Rattle.sasi_model.specs.Refusals.{read}
+use Rattle.sasi_store.specs.Frames.{KeepsListed}
 use Rattle.sasi_store.specs.Selects.{HasShortRows, select_reads}
 use Rattle.sasi_store.specs.StoreView.{StoreView}
 use Rattle.sasi_store.specs.Worlds.{ServesWorld, World, steps}
@@ -28,3 +29,9 @@ returns-in_err-outcome-clause-reads g c =
     let b = g.H.Host.view c.step.new.host in
     let piece = piece_of c.args.end c.args.piece.now in
     subst (λ (store : StoreView). (w : World) → ServesWorld a store.memory store.trace w → HasShortRows a.files w.layout (read piece) → b.reads ≤ a.reads + select_reads a.files w.layout (read piece)) c.self.view_is c.step.ensures.steps.reads
+
+pub returns-in_err-outcome-clause-files_stay : goal.returns-in_err-outcome-clause-files_stay
+returns-in_err-outcome-clause-files_stay g c =
+    let a = g.H.Host.view c.args.host.now in
+    let b = g.H.Host.view c.step.new.host in
+    subst (λ (store : StoreView). Changes (KeepsListed store.memory.manifest.listing) a b) c.self.view_is c.step.ensures.steps.files_stay

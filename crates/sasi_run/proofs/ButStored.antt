@@ -1,4 +1,4 @@
--- Pieces run on every host, one after another: their replies but the rows, from a state that the store is of.
+-- Pieces run on every host, one after another: their replies but those that come from the files or tell of them, from a state that the store is of.
 use Rattle.std.proofs.Common.{◌≡◌, ℕ, ◌+◌, ◌≤◌, ◌<◌, ◌^◌, List, [], ◌∷◌, ◌++◌, length, Option, refl, sym, ap, ◌∙◌, subst, arith, append_assoc}
 use Rattle.std.specs.Io.KnownBytes.{Consumes}
 use Rattle.sasi_host.specs.View.{View, counted_by}
@@ -7,8 +7,8 @@ use Rattle.sasi_model.specs.Pieces.{Piece}
 use Rattle.sasi_model.specs.State.{State}
 use Rattle.sasi_model.specs.Step.{refusals, state_after, step}
 use Rattle.sasi_store.specs.StoreView.{StoreView}
-use Rattle.sasi_run.specs.Crashing.{EmittedButRows, IsOfState, RanButRows, StoppedButRows}
-use Rattle.sasi_run.specs.Headline.{AreRepliesButRows, EmitsByStatus, IsFirstPart, IsReplyButRows, READ_MOST, ReadsToEnd, Runs, SCRIPT_MOST, but_rows, script_of, status_of_stop}
+use Rattle.sasi_run.specs.Crashing.{EmittedButStored, IsOfState, RanButStored, StoppedButStored}
+use Rattle.sasi_run.specs.Headline.{AreRepliesButStored, EmitsByStatus, IsFirstPart, IsReplyButStored, READ_MOST, ReadsToEnd, Runs, SCRIPT_MOST, but_stored, script_of, status_of_stop}
 use Rattle.sasi_run.specs.declared.session.Session.{Session}
 use Rattle.sasi_run.specs.declared.session.Stop.{Stop}
 use Rattle.sasi_run.specs.declared.session.Stop.TheVariants.{Disk, Output, Memory, Corrupt, Spent, Missing}
@@ -25,15 +25,15 @@ refused_both : (xs ys : List Piece) (s : State) → refusals s (xs ++ ys) ≡ re
 refused_both [] ys s = omega arith
 refused_both (x ∷ xs) ys s = let e = refused_both xs ys (step s x).state in omega (arith, e)
 
-replied_both : (xs ys : List Piece) (s : State) (a b : List ℕ) → AreRepliesButRows grammar_parser s xs a → AreRepliesButRows grammar_parser (state_after s xs) ys b
-    → AreRepliesButRows grammar_parser s (xs ++ ys) (a ++ b)
-replied_both [] ys s a b first second = subst (AreRepliesButRows grammar_parser s ys) (ap (λ (l : List ℕ). l ++ b) (sym first)) second
+replied_both : (xs ys : List Piece) (s : State) (a b : List ℕ) → AreRepliesButStored grammar_parser s xs a → AreRepliesButStored grammar_parser (state_after s xs) ys b
+    → AreRepliesButStored grammar_parser s (xs ++ ys) (a ++ b)
+replied_both [] ys s a b first second = subst (AreRepliesButStored grammar_parser s ys) (ap (λ (l : List ℕ). l ++ b) (sym first)) second
 replied_both (x ∷ xs) ys s a b (reply, others, parts, is, rest) second =
     (reply, others ++ b, ap (λ (l : List ℕ). l ++ b) parts ∙ append_assoc reply others b, is, replied_both xs ys (step s x).state others b rest second)
 
 -- nothing was run
 pub ran_nothing_but : (s : State) (old new : Session) (a : View) → old.refused < 2 ^ 64 → new.store ≡ old.store → new.refused ≡ old.refused
-    → IsOfState old.store s → RanButRows s [] old new a a
+    → IsOfState old.store s → RanButStored s [] old new a a
 ran_nothing_but s old new a small store count of = record {
   state = subst (λ (k : StoreView). IsOfState k s) (sym store) of;
   shown = [];
@@ -43,8 +43,8 @@ ran_nothing_but s old new a small store count of = record {
 }
 
 -- some pieces, and then others
-pub ran_both_but : (s : State) (xs ys : List Piece) (old mid new : Session) (a b c : View) → RanButRows s xs old mid a b
-    → RanButRows (state_after s xs) ys mid new b c → RanButRows s (xs ++ ys) old new a c
+pub ran_both_but : (s : State) (xs ys : List Piece) (old mid new : Session) (a b c : View) → RanButStored s xs old mid a b
+    → RanButStored (state_after s xs) ys mid new b c → RanButStored s (xs ++ ys) old new a c
 ran_both_but s xs ys old mid new a b c t u =
     let later : State = state_after s xs in
     record {
@@ -56,8 +56,8 @@ ran_both_but s xs ys old mid new a b c t u =
           ∙ ap (counted_by old.refused) (sym (refused_both xs ys s));
     }
 
-replied_later : (stop : Stop) (s : State) (xs done next : List Piece) (first shown : List ℕ) → AreRepliesButRows grammar_parser s xs first
-    → EmittedButRows stop (state_after s xs) done next shown → EmittedButRows stop s (xs ++ done) next (first ++ shown)
+replied_later : (stop : Stop) (s : State) (xs done next : List Piece) (first shown : List ℕ) → AreRepliesButStored grammar_parser s xs first
+    → EmittedButStored stop (state_after s xs) done next shown → EmittedButStored stop s (xs ++ done) next (first ++ shown)
 replied_later Memory s xs done next first shown before at = replied_both xs done s first shown before at
 replied_later Disk s xs done next first shown before at = replied_both xs done s first shown before at
 replied_later (Corrupt damage) s xs done next first shown before at = replied_both xs done s first shown before at
@@ -70,13 +70,13 @@ replied_later Output s xs done next first shown before (piece, whole, front, bac
   back,
   one,
   replied_both xs done s first whole before at,
-  subst (λ (t : State). IsReplyButRows grammar_parser t piece (front ++ back)) (sym (state_both xs done s)) reply,
+  subst (λ (t : State). IsReplyButStored grammar_parser t piece (front ++ back)) (sym (state_both xs done s)) reply,
   ap (λ (l : List ℕ). first ++ l) parts ∙ sym (append_assoc first whole front),
 )
 
 -- some pieces, and then a stop
-pub stopped_behind_but : (stop : Stop) (s : State) (xs done next : List Piece) (old mid : Session) (a b c : View) → RanButRows s xs old mid a b
-    → StoppedButRows stop (state_after s xs) done next b c → StoppedButRows stop s (xs ++ done) next a c
+pub stopped_behind_but : (stop : Stop) (s : State) (xs done next : List Piece) (old mid : Session) (a b c : View) → RanButStored s xs old mid a b
+    → StoppedButStored stop (state_after s xs) done next b c → StoppedButStored stop s (xs ++ done) next a c
 stopped_behind_but stop s xs done next old mid a b c t u = record {
   shown = t.shown ++ u.shown;
   emitted = appends_both a.emitted b.emitted c.emitted t.shown u.shown t.emitted u.emitted;
@@ -84,8 +84,8 @@ stopped_behind_but stop s xs done next old mid a b c t u = record {
 }
 
 -- `stand` is the session with what the splitter has read since
-pub ran_from_but : (s : State) (pieces : List Piece) (old stand new : Session) (a b : View) → stand.refused ≡ old.refused → RanButRows s pieces stand new a b
-    → RanButRows s pieces old new a b
+pub ran_from_but : (s : State) (pieces : List Piece) (old stand new : Session) (a b : View) → stand.refused ≡ old.refused → RanButStored s pieces stand new a b
+    → RanButStored s pieces old new a b
 ran_from_but s pieces old stand new a b count ran = record {
   state = ran.state;
   shown = ran.shown;
@@ -104,8 +104,8 @@ stop_anywhere (Corrupt damage) left = tt
 stop_anywhere (Spent kind) left = tt
 stop_anywhere (Missing class) left = tt
 
-stop_shows : (stop : Stop) (s : State) (script read : List ℕ) (done next : List Piece) (shown : List ℕ) → IsFirstPart script read done next → EmittedButRows stop s done next shown
-    → EmitsByStatus grammar_parser (but_rows grammar_parser) (status_of_stop stop) s script read shown
+stop_shows : (stop : Stop) (s : State) (script read : List ℕ) (done next : List Piece) (shown : List ℕ) → IsFirstPart script read done next → EmittedButStored stop s done next shown
+    → EmitsByStatus grammar_parser (but_stored grammar_parser) (status_of_stop stop) s script read shown
 stop_shows Memory s script read done next shown first at = record { done = done; first = without_next script read done next first; replied = at }
 stop_shows Disk s script read done next shown first at = record { done = done; first = without_next script read done next first; replied = at }
 stop_shows (Corrupt damage) s script read done next shown first at = record { done = done; first = without_next script read done next first; replied = at }
@@ -125,7 +125,7 @@ stop_shows Output s script read done next shown first (piece, whole, front, back
 }
 
 pub stop_runs : (stop : Stop) (s : State) (read : List ℕ) (l l2 : Option (List ℕ)) (a c : View) (done next : List Piece) → Consumes l l2 read → length read ≤ SCRIPT_MOST + READ_MOST
-    → IsFirstPart (script_of l read) read done next → StoppedButRows stop s done next a c → Runs grammar_parser (but_rows grammar_parser) (status_of_stop stop) s l l2 a.emitted c.emitted
+    → IsFirstPart (script_of l read) read done next → StoppedButStored stop s done next a c → Runs grammar_parser (but_stored grammar_parser) (status_of_stop stop) s l l2 a.emitted c.emitted
 stop_runs stop s read l l2 a c done next consumed bounded first stopped = record {
   read = read;
   shown = stopped.shown;

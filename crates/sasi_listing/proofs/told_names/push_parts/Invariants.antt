@@ -1,6 +1,6 @@
 use Rattle.std.proofs.Common.{◌≡◌, ◌++◌, drop, map}
 use Rattle.sasi_manifest.specs.ListedFiles.{index_name}
-use Rattle.sasi_recover.proofs.files.push_parts.Given as goal
+use Rattle.sasi_listing.proofs.told_names.push_parts.Given as goal
 
 -- with those that are left
 abbrev pub invariant-loop-part : goal.invariant-loop-part

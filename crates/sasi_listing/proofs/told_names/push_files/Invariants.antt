@@ -1,7 +1,7 @@
 use Rattle.std.proofs.Common.{◌≡◌, ◌++◌, drop}
 use Rattle.std.specs.List.{flat_map}
 use Rattle.sasi_manifest.specs.ListedFiles.{names_of}
-use Rattle.sasi_recover.proofs.files.push_files.Given as goal
+use Rattle.sasi_listing.proofs.told_names.push_files.Given as goal
 
 -- with those that are left
 abbrev pub invariant-loop-file : goal.invariant-loop-file

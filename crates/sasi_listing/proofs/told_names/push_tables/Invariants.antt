@@ -1,7 +1,7 @@
 use Rattle.std.proofs.Common.{◌≡◌, ◌++◌, drop, map}
 use Rattle.sasi_manifest.specs.FileNames.{file_names}
 use Rattle.sasi_manifest.specs.ListedTables.{listed}
-use Rattle.sasi_recover.proofs.files.push_all.Given as goal
+use Rattle.sasi_listing.proofs.told_names.push_tables.Given as goal
 
 -- with those that are left
 abbrev pub invariant-loop-table : goal.invariant-loop-table

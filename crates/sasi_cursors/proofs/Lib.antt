@@ -1,0 +1,2 @@
+pub mod Agreement
+mod Seen
