@@ -36,6 +36,17 @@ pub fn filled(rt: &impl Abort, alloc: Global) -> Memtable {
     memtable
 }
 
+/// A key with an int that was written then.
+pub fn one_row(rt: &impl Abort, alloc: Global, key: &[u8], time: u64) -> Memtable
+    requires { 0 < time }
+{
+    let mut memtable = Memtable::new(alloc, Partitioner::Lead8);
+    memtable
+        .put_from(key_of(rt, alloc, key), int_at(rt, alloc, time))
+        .expect(rt, "memory for a change");
+    memtable
+}
+
 /// The key at a position is this one.
 fn check_at(rt: &impl Abort, memtable: &Memtable, position: usize, bytes: &[u8]) {
     let is_it = match memtable.at(position) {

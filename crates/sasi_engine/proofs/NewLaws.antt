@@ -46,13 +46,14 @@ use Rattle.sasi_engine.specs.Asked.{asked_of}
 use Rattle.sasi_engine.specs.HitCandidates.{IsLeft, IsMadeOf, IsWorld, PlanWorld, candidates_at, hit_entries, in_memory, looked_groups}
 use Rattle.sasi_engine.specs.HitLists.{hit_lists, serving}
 use Rattle.sasi_engine.specs.Parts.{HitsIn, OfFile, OfMap, hits_in, hits_of}
-use Rattle.sasi_engine.specs.Plans.{AreShort, IsCandidateDamage, IsOneOf, file_numbers, is_file_of, map_numbers, names_of, of_lookup}
+use Rattle.sasi_engine.specs.Plans.{AreShort, IsCandidateDamage, file_numbers, is_file_of, map_numbers, names_of, of_lookup}
+use Rattle.sasi_sources.specs.Maps.{IsOneOf}
 use Rattle.sasi_engine.specs.TokenHits.{AreSmall, contents_in_files, maps_numbered}
 use Rattle.sasi_engine.specs.Views.{ArePartsOf, IsMapIn, IsPlannedFor}
 use Rattle.sasi_engine.specs.Findable.{CanFind, HasIndexes}
 use Rattle.sasi_engine.specs.inside.Found.{found_in}
 use Rattle.sasi_engine.specs.inside.Sources.{all_hits, found_by, has_part}
-use Rattle.sasi_engine.specs.TokenHits.{views_numbered}
+use Rattle.sasi_scan.specs.Numbered.{views_numbered}
 use Rattle.sasi_engine.proofs.FileLaws.{content_is}
 use Rattle.sasi_engine.proofs.Looked.{entries_run}
 use Rattle.sasi_engine.proofs.Opening.{own_name}

@@ -16,7 +16,7 @@ use Rattle.sasi_scan.specs.Parts.{IsMergeOfParts}
 use Rattle.sasi_scan.proofs.KeyLookups.{maps_of_parts}
 use Rattle.sasi_scan.proofs.Openings.{each_among}
 use Rattle.sasi_engine.specs.TokenHits.{maps_numbered}
-use Rattle.sasi_engine.specs.TokenHits.{views_numbered}
+use Rattle.sasi_scan.specs.Numbered.{views_numbered}
 
 found_append : (key : DecoratedKey) (base : Option Partition) (xs ys : List Partitions) → found_in key base (xs ++ ys) ≡ found_in key (found_in key base xs) ys
 found_append key base [] ys = refl

@@ -10,7 +10,7 @@ use Rattle.sasi_engine.specs.declared.hand.Hand.{Hand}
 use Rattle.sasi_engine.specs.declared.step.Outcome.{Outcome}
 use Rattle.sasi_engine.specs.declared.step.Outcome.TheVariants.{Ended, Passed, Found}
 use Rattle.sasi_engine.specs.inside.Steps.{IsSameHand, StepSpends}
-use Rattle.sasi_engine.specs.TokenHits.{views_numbered}
+use Rattle.sasi_scan.specs.Numbered.{views_numbered}
 
 -- a step fails, where so much was read before and is owed
 pub step_fails : (Pays : ℕ → ℕ → List ℕ → Type 0) (most rest owed : ℕ) (prices : List ℕ) (was mid now : ℕ) (r : Result Outcome ReadFault) (f : ReadFault) → r ≡ Err f → mid + rest ≤ was + (most + owed) → StepSpends Pays rest owed prices mid now r → now ≤ was + (most + first_price prices)

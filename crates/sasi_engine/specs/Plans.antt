@@ -1,5 +1,5 @@
 -- What the streams of a plan leave, and the files that they may read.
-use Rattle.std.specs.Prelude.{◌≡◌, ◌⊎◌, ℕ, ◌≤◌, ◌^◌, Bool, true, List, [], ◌∷◌, length, map, Option, Some}
+use Rattle.std.specs.Prelude.{◌≡◌, ℕ, ◌≤◌, ◌^◌, Bool, true, List, [], ◌∷◌, length, map, Option, Some}
 use Rattle.std.specs.FinMap.{get}
 use Rattle.std.specs.List.{list_any}
 use Rattle.sasi_types.specs.declared.column.ColumnType.{ColumnType}
@@ -55,11 +55,6 @@ abbrev pub map_numbers : List view.Part → List ℕ
 map_numbers [] = []
 map_numbers (File number indexes ∷ listed) = map_numbers listed
 map_numbers (Map number ∷ listed) = number ∷ map_numbers listed
-
--- it is one of these numbers
-abbrev pub IsOneOf : List ℕ → ℕ → Type 0
-IsOneOf [] number = ⊥
-IsOneOf (n ∷ ns) number = (number ≡ n) ⊎ IsOneOf ns number
 
 -- ---- damage
 

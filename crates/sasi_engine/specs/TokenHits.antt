@@ -1,7 +1,7 @@
 -- What a reader has in hand of a token.
-use Rattle.std.specs.Prelude.{ℕ, ◌*◌, ◌^◌, ◌≤◌, List, length, map, Option, Some}
+use Rattle.std.specs.Prelude.{ℕ, ◌*◌, ◌^◌, ◌≤◌, List, length, map, Option}
 use Rattle.std.specs.FinMap as map_
-use Rattle.std.specs.List.{AllByRecursion, flat_map}
+use Rattle.std.specs.List.{AllByRecursion}
 use Rattle.std.specs.Option.{option_map_or}
 use Rattle.sasi_types.specs.declared.decorated_key.DecoratedKey.{DecoratedKey}
 use Rattle.sasi_types.specs.declared.partitioner.Partitioner.{Partitioner}
@@ -9,7 +9,6 @@ use Rattle.sasi_model.specs.Abbreviations.{Partitions}
 use Rattle.sasi_model.specs.Cells.{Partition}
 use Rattle.sasi_memindex.specs.Book.{Book}
 use Rattle.sasi_memindex.specs.declared.map_part.MapPart.{MapPart}
-use Rattle.sasi_memtable.specs.MemtableView.{MemtableView}
 use Rattle.sasi_layout.specs.Flushed.{contents_of}
 use Rattle.sasi_datawrite.specs.Format.{Content, header}
 use Rattle.sasi_dataread.specs.declared.token_keys.PlacedKey.{PlacedKey}
@@ -17,7 +16,6 @@ use Rattle.sasi_dataread.specs.PlacedKeys.{keys_at}
 use Rattle.sasi_candidates.specs.Costs.{files_of}
 use Rattle.sasi_candidates.specs.Groups.{Group}
 use Rattle.sasi_candidates.specs.Parts.{Part}
-use Rattle.sasi_sources.specs.Maps.{maps_in}
 
 -- the keys with a token in each data file, in the order of the parts
 abbrev pub keys_in_files : Partitioner → ℕ → List Part → List (List PlacedKey)
@@ -44,10 +42,6 @@ map_numbered book number = option_map_or (λ (m : MapPart). m.map.partitions) (m
 -- the maps with these numbers
 abbrev pub maps_numbered : Book → List ℕ → List Partitions
 maps_numbered book numbers = map (map_numbered book) numbers
-
--- those that the book has, as it has them
-abbrev pub views_numbered : Book → List ℕ → List MemtableView
-views_numbered book numbers = flat_map (λ number. maps_in book (Some number)) numbers
 
 -- what the map with a number has of a key
 abbrev pub map_finds : Book → DecoratedKey → ℕ → Option Partition

@@ -11,9 +11,10 @@ ghost use Rattle.sasi_candidates.specs.Costs.{file_cost, files_of};
 ghost use Rattle.sasi_model.specs.Filters.{where_of};
 ghost use Rattle.sasi_sources.specs.KeyCandidates.{HasKeyType};
 ghost use Rattle.sasi_engine.specs.HitCandidates.{IsLeft, IsMadeOf, IsOwing, IsWorld, PlanWorld, looked_groups, prices_from};
-ghost use Rattle.sasi_engine.specs.Plans.{AreShort, IsCandidateDamage, IsOneOf, file_numbers, is_file_of, map_numbers};
+ghost use Rattle.sasi_engine.specs.Plans.{AreShort, IsCandidateDamage, file_numbers, is_file_of, map_numbers};
+ghost use Rattle.sasi_sources.specs.Maps.{IsOneOf};
 ghost use Rattle.sasi_engine.specs.Findable.{CanFind, HasWords};
-ghost use Rattle.sasi_engine.specs.TokenHits.{views_numbered};
+ghost use Rattle.sasi_scan.specs.Numbered.{views_numbered};
 ghost use Rattle.sasi_engine.specs.inside.Steps.{IsHandReady, SourceOpens, SourceShows};
 
 use crate::IndexedRelation;
@@ -55,8 +56,8 @@ fn file_numbers(alloc: Global, parts: &[Part]) -> Result<Vec<DataNumber>, AllocE
     Ok(numbers)
 }
 
-// The numbers of the maps.
-fn map_numbers(alloc: Global, parts: &[Part]) -> Result<Vec<u64>, AllocError>
+/// The numbers of the maps of a view, in its order.
+pub fn map_numbers(alloc: Global, parts: &[Part]) -> Result<Vec<u64>, AllocError>
     ensures { IfOk result (λ numbers. numbers.items ≡ map_numbers parts.now) }
 {
     let mut numbers = Vec::new(alloc);
@@ -151,9 +152,9 @@ impl<S: TokenStream> Candidates for HitCandidates<S> {
     ghost use Rattle.sasi_host.specs.Names.{Folder};
     ghost use Rattle.sasi_ranges.specs.declared.entry.Entry.{Entry as SpecEntry};
     ghost use Rattle.sasi_sources.specs.KeyCandidates.{HasKeyType};
-    ghost use Rattle.sasi_engine.specs.Plans.{IsOneOf};
+    ghost use Rattle.sasi_sources.specs.Maps.{IsOneOf};
     ghost use Rattle.sasi_engine.specs.inside.Steps.{IsHandReady, SourceLeaves, SourceOpens, SourceOwes, SourceShows};
-    ghost use Rattle.sasi_engine.specs.TokenHits.{views_numbered};
+    ghost use Rattle.sasi_scan.specs.Numbered.{views_numbered};
     ghost use Rattle.sasi_engine.specs.inside.SourceLaws.{source_keeps};
 
     ghost leaves = { λ s files book left. SourceLeaves (S.leaves s.hits files) s.ahead s.hand files book left };

@@ -18,7 +18,7 @@ mod step;
 mod streams;
 mod token_entries;
 
-pub use hit_candidates::HitCandidates;
+pub use hit_candidates::{HitCandidates, map_numbers};
 pub use keyed_hits::KeyedHits;
 pub use plan::{PlanStreams, plan_streams};
 pub use relation::IndexedRelation;

@@ -9,7 +9,7 @@ ghost use Rattle.sasi_scan.specs.Parts.{IsMergeOfParts};
 ghost use Rattle.sasi_lookup.specs.Lookups.{HasKeysOf, IsLookingIn, IsReady, IsTurned, Opens, Shows};
 ghost use Rattle.sasi_lookup.specs.Reads.{found_pages};
 ghost use Rattle.sasi_engine.specs.TokenHits.{maps_numbered};
-ghost use Rattle.sasi_engine.specs.TokenHits.{views_numbered};
+ghost use Rattle.sasi_scan.specs.Numbered.{views_numbered};
 
 use crate::map_finds::find_in_maps;
 use sasi_cells::Partition;

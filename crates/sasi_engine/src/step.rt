@@ -14,7 +14,7 @@ ghost use Rattle.sasi_recheck.specs.Sources.{Candidate, GivesFirst, GivesPrintab
 ghost use Rattle.sasi_sources.specs.KeyCandidates.{HasKeyType};
 ghost use Rattle.sasi_engine.specs.TokenHits.{maps_numbered};
 ghost use Rattle.sasi_engine.specs.inside.Steps.{IsHandReady, IsSameHand, SourceLeaves, SourceOpens, SourceOwes, SourceShows, StepGives, StepPrintable, StepSpends, first_token, step_of};
-ghost use Rattle.sasi_engine.specs.TokenHits.{views_numbered};
+ghost use Rattle.sasi_scan.specs.Numbered.{views_numbered};
 
 use crate::hand::{Hand, turn_hand};
 use crate::part_finds::find_in_parts;

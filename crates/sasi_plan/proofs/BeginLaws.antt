@@ -1,5 +1,5 @@
 -- What a source of candidates that was begun leaves, and what it takes: that of the conditions of its world.
-use Rattle.std.proofs.Common.{◌≡◌, ℕ, ◌+◌, ◌≤◌, List, [], ◌∷◌, length, Option, None, Some, sym, ap, subst, ◌∙◌, arith}
+use Rattle.std.proofs.Common.{◌≡◌, ℕ, ◌+◌, ◌≤◌, List, [], ◌∷◌, length, None, Some, sym, ap, subst, ◌∙◌, arith}
 use Rattle.std.specs.FinMap as map_
 use Rattle.sasi_types.specs.declared.column.ColumnType.{ColumnType}
 use Rattle.sasi_types.specs.declared.decorated_key.DecoratedKey.{DecoratedKey}
@@ -9,10 +9,10 @@ use Rattle.sasi_manifest.specs.declared.files.ListedFile.{ListedFile}
 use Rattle.sasi_memindex.specs.Book.{Book}
 use Rattle.sasi_datawrite.specs.Format.{Content}
 use Rattle.sasi_scan.specs.Finding.{key_reads}
+use Rattle.sasi_scan.specs.Numbered.{views_numbered}
 use Rattle.sasi_scan.specs.Paging.{table_reads}
 use Rattle.sasi_scan.specs.Parts.{AreContents, merged_parts}
 use Rattle.sasi_sources.specs.KeyCandidates.{IsKeyOf, found_of}
-use Rattle.sasi_sources.specs.Maps.{maps_in}
 use Rattle.sasi_views.specs.declared.part.Part as view
 use Rattle.sasi_candidates.specs.Candidates.{candidates}
 use Rattle.sasi_candidates.specs.Costs.{token_cost}
@@ -22,8 +22,9 @@ use Rattle.sasi_engine.specs.declared.relation.IndexedRelation.{IndexedRelation}
 use Rattle.sasi_engine.specs.Asked.{asked_of}
 use Rattle.sasi_engine.specs.HitCandidates.{IsMadeOf, IsWorld, PlanWorld, looked_groups, prices_from}
 use Rattle.sasi_engine.specs.KeyedHits.{IsKeyedWorld}
+use Rattle.sasi_engine.specs.Plans.{map_numbers}
 use Rattle.sasi_engine.specs.TokenHits.{contents_in_files}
-use Rattle.sasi_plan.specs.Reading.{HitPrices, IsMadeForKey, IsViewOf, KeyPrices, TablePrices, first_map, listed_files}
+use Rattle.sasi_plan.specs.Reading.{HitPrices, IsMadeForKey, IsViewOf, KeyPrices, TablePrices, listed_files}
 use Rattle.sasi_plan.proofs.CandidateLaws.{all_candidates, key_candidates}
 use Rattle.sasi_plan.proofs.ViewLaws.{none_asked, some_asked, view_contents, view_merged}
 
@@ -42,15 +43,15 @@ module _ (w : PlanWorld) (book : Book) (is : IsViewOf w book) (types : List Colu
         subst (λ (ts : List ColumnType). AreContents (Some w.folder) w.partitioner ts files (contents_in_files w.parts)) made.types_are
         (subst (λ (fs : List ListedFile). AreContents (Some w.folder) w.partitioner w.types fs (contents_in_files w.parts)) are_listed (view_contents w book is))
 
-    merge_is : (number : Option ℕ) → number ≡ first_map listed → merged_parts w.partitioner (contents_in_files w.parts) (maps_in book number) ≡ merged_parts w.partitioner (contents_in_files w.parts) (maps_in book (first_map w.listed))
-    merge_is number number_is = ap (λ (n : Option ℕ). merged_parts w.partitioner (contents_in_files w.parts) (maps_in book n)) (number_is ∙ ap first_map (sym made.listed_are))
+    merge_is : (numbers : List ℕ) → numbers ≡ map_numbers listed → merged_parts w.partitioner (contents_in_files w.parts) (views_numbered book numbers) ≡ merged_parts w.partitioner (contents_in_files w.parts) (views_numbered book (map_numbers w.listed))
+    merge_is numbers numbers_are = ap (λ (ns : List ℕ). merged_parts w.partitioner (contents_in_files w.parts) (views_numbered book ns)) (numbers_are ∙ ap map_numbers (sym made.listed_are))
 
-    -- **A scan of the listed files and the map leaves the candidates of the conditions,**
-    pub scan_leaves : key_asked w.conditions ≡ None → (Leaves : List Candidate → Type 0) (left : List Candidate) → left ≡ candidates w.parts (where_of w.conditions) → (number : Option ℕ) → number ≡ first_map listed
-        → ((contents : List Content) → AreContents (Some w.folder) w.partitioner types files contents → Leaves (map_.entries (merged_parts w.partitioner contents (maps_in book number)))) → Leaves left
-    scan_leaves free Leaves left left_is number number_is leaves =
+    -- **A scan of the listed files and the maps leaves the candidates of the conditions,**
+    pub scan_leaves : key_asked w.conditions ≡ None → (Leaves : List Candidate → Type 0) (left : List Candidate) → left ≡ candidates w.parts (where_of w.conditions) → (numbers : List ℕ) → numbers ≡ map_numbers listed
+        → ((contents : List Content) → AreContents (Some w.folder) w.partitioner types files contents → Leaves (map_.entries (merged_parts w.partitioner contents (views_numbered book numbers)))) → Leaves left
+    scan_leaves free Leaves left left_is numbers numbers_are leaves =
         subst Leaves
-        (ap map_.entries (merge_is number number_is ∙ view_merged w book is) ∙ sym (left_is ∙ all_candidates w.parts w.conditions free nothing_asked))
+        (ap map_.entries (merge_is numbers numbers_are ∙ view_merged w book is) ∙ sym (left_is ∙ all_candidates w.parts w.conditions free nothing_asked))
         (leaves (contents_in_files w.parts) files_have)
 
     -- **and takes what it says of itself.**
@@ -62,11 +63,11 @@ module _ (w : PlanWorld) (book : Book) (is : IsViewOf w book) (types : List Colu
     is_key key own = record { contents_are = files_have; decorated_is = own }
 
     -- **A look-up of the key leaves the candidates of the conditions, too,**
-    pub look_up_leaves : (key : DecoratedKey) → IsMadeForKey w key [] types listed → (Leaves : List Candidate → Type 0) (left : List Candidate) → left ≡ candidates w.parts (where_of w.conditions) → (number : Option ℕ) → number ≡ first_map listed
-        → ((contents : List Content) → IsKeyOf (Some w.folder) types files key w.partitioner contents → Leaves (found_of key (map_.get (merged_parts w.partitioner contents (maps_in book number)) key))) → Leaves left
-    look_up_leaves key of Leaves left left_is number number_is leaves =
+    pub look_up_leaves : (key : DecoratedKey) → IsMadeForKey w key [] types listed → (Leaves : List Candidate → Type 0) (left : List Candidate) → left ≡ candidates w.parts (where_of w.conditions) → (numbers : List ℕ) → numbers ≡ map_numbers listed
+        → ((contents : List Content) → IsKeyOf (Some w.folder) types files key w.partitioner contents → Leaves (found_of key (map_.get (merged_parts w.partitioner contents (views_numbered book numbers)) key))) → Leaves left
+    look_up_leaves key of Leaves left left_is numbers numbers_are leaves =
         subst Leaves
-        (ap (λ (m : Partitions). found_of key (map_.get m key)) (merge_is number number_is ∙ view_merged w book is)
+        (ap (λ (m : Partitions). found_of key (map_.get m key)) (merge_is numbers numbers_are ∙ view_merged w book is)
         ∙ sym (left_is ∙ key_candidates w.parts w.conditions w.partitioner key of.1 of.2 nothing_asked of.3 is.own_tokens))
         (leaves (contents_in_files w.parts) (is_key key of.3))
 

@@ -1,8 +1,7 @@
--- The parts of a view: what its data files and its map have, and what is looked at for them.
+-- The parts of a view: what its data files and its maps have, and what is looked at for them.
 use Rattle.std.proofs.Common.{◌≡◌, ℕ, ◌≤◌, ◌==◌, true, false, List, [], ◌∷◌, ◌++◌, length, map, Option, None, Some, refl, sym, ap, ap₂, subst, ◌∙◌, arith, append_assoc, inl, inr, rules}
 use Rattle.std.proofs.lemmas.List.{map-append}
 use Rattle.std.specs.FinMap as map_
-use Rattle.std.specs.List.{AllByRecursion}
 use Rattle.std.specs.Option.{option_map_or}
 use Rattle.sasi_types.specs.declared.column.ColumnType.{ColumnType}
 use Rattle.sasi_types.specs.declared.partitioner.Partitioner.{Partitioner}
@@ -15,15 +14,13 @@ use Rattle.sasi_memindex.specs.Book.{AreKept, Book}
 use Rattle.sasi_memindex.specs.MemIndexView.{Numbered}
 use Rattle.sasi_memindex.specs.declared.map_part.MapPart.{MapPart}
 use Rattle.sasi_memtable.specs.MemtableView.{MemtableView}
-use Rattle.sasi_machine.specs.TableRows.{AreStored}
 use Rattle.sasi_manifest.specs.declared.files.ListedFile.{ListedFile}
 use Rattle.sasi_datawrite.specs.Format.{Content}
 use Rattle.sasi_layout.specs.Layout.{TableParts}
 use Rattle.sasi_scan.specs.Parts.{AreContents, merged_parts}
 use Rattle.sasi_scan.proofs.KeyLookups.{parts_are}
 use Rattle.sasi_recheck.specs.Growth.{IsGrown}
-use Rattle.sasi_sources.specs.KeyCandidates.{HasKeyType, IsListed}
-use Rattle.sasi_sources.specs.Maps.{IsMap, maps_in}
+use Rattle.sasi_sources.specs.KeyCandidates.{IsListed}
 use Rattle.sasi_views.specs.declared.part.Part as view
 use Rattle.sasi_views.specs.declared.part.Part.TheVariants as view_part
 use Rattle.sasi_candidates.specs.Costs.{files_of}
@@ -32,13 +29,15 @@ use Rattle.sasi_candidates.specs.Parts.{Part, maps_of}
 use Rattle.sasi_engine.specs.declared.relation.IndexedRelation.{IndexedRelation}
 use Rattle.sasi_engine.specs.Asked.{Asked, asked_of}
 use Rattle.sasi_engine.specs.HitCandidates.{PlanWorld, in_memory}
-use Rattle.sasi_engine.specs.Plans.{IsOneOf, file_numbers, is_file_of, map_numbers}
-use Rattle.sasi_engine.specs.TokenHits.{contents_in_files, maps_numbered, views_numbered}
+use Rattle.sasi_engine.specs.Plans.{file_numbers, is_file_of, map_numbers}
+use Rattle.sasi_sources.specs.Maps.{IsOneOf}
+use Rattle.sasi_engine.specs.TokenHits.{contents_in_files, maps_numbered}
+use Rattle.sasi_scan.specs.Numbered.{views_numbered}
 use Rattle.sasi_engine.specs.Views.{AreAsked, ArePartsOf, IsMapIn}
 use Rattle.sasi_engine.proofs.NewLaws.{all_listed, all_maps, numbered_file}
 use Rattle.sasi_engine.proofs.Places.{view_decorated}
 use Rattle.sasi_engine.proofs.WorldLaws.{files_made}
-use Rattle.sasi_plan.specs.Reading.{IsViewOf, first_map, listed_files}
+use Rattle.sasi_plan.specs.Reading.{IsViewOf, listed_files}
 
 -- ---- relations
 
@@ -72,31 +71,11 @@ file_listed [] name is = absurd is
 file_listed (file ∷ files) name (inl same) = (file.number, inl refl, same)
 file_listed (file ∷ files) name (inr later) = let rest = file_listed files name later in (rest.0, inr rest.1, rest.2)
 
--- **A listed data file is a file of the view,**
+-- **A listed data file is a file of the view.**
 pub listed_file : (listed : List view.Part) (name : FileName) → IsListed (listed_files listed) name → is_file_of listed name ≡ true
 listed_file listed name is =
     let one = file_listed (listed_files listed) name is in
     ap (is_file_of listed) one.2 ∙ numbered_file listed one.0 (subst (λ (ns : List ℕ). IsOneOf ns one.0) (sym (numbers_listed listed)) one.1)
-
--- **and its first map is one of its maps.**
-pub mapped_one : (listed : List view.Part) (number : ℕ) → IsMap (first_map listed) number → IsOneOf (map_numbers listed) number
-mapped_one [] number is = absurd is
-mapped_one (view_part.File n indexes ∷ listed) number is = mapped_one listed number is
-mapped_one (view_part.Map n ∷ listed) number is = inl is
-
--- ---- printable keys
-
-first_part : {A : Type 0} (P : A → Type 0) (xs ys : List A) → AllByRecursion P (xs ++ ys) → AllByRecursion P xs
-first_part P [] ys all = tt
-first_part P (x ∷ xs) ys all = (all.0, first_part P xs ys all.1)
-
-first_views : (P : MemtableView → Type 0) (book : Book) (listed : List view.Part) → AllByRecursion P (views_numbered book (map_numbers listed)) → AllByRecursion P (maps_in book (first_map listed))
-first_views P book [] all = tt
-first_views P book (view_part.File n indexes ∷ listed) all = first_views P book listed all
-first_views P book (view_part.Map n ∷ listed) all = first_part P (maps_in book (Some n)) (views_numbered book (map_numbers listed)) all
-
-pub first_typed : (types : List ColumnType) (book : Book) (listed : List view.Part) (kind : ColumnType) → HasKeyType types (views_numbered book (map_numbers listed)) kind → HasKeyType types (maps_in book (first_map listed)) kind
-first_typed types book listed kind has = record { first = has.first; stored = first_views (λ (m : MemtableView). AreStored kind m.partitions) book listed has.stored }
 
 -- ---- another book
 
@@ -134,7 +113,6 @@ module _ (was now : Book) where
     };
     ordered = is.ordered;
     own_tokens = is.own_tokens;
-    few = is.few;
   }
 
 -- ---- the merge of its parts
@@ -152,20 +130,21 @@ contents_numbered seen p types (f ∷ files) (o ∷ others) (c ∷ contents) sam
       contents_numbered seen p types files others contents rest are.1,
     )
 
-first_alone : (folder : Folder) (p : Partitioner) (t : TableParts) (book : Book) (listed : List view.Part) (parts : List Part) → ArePartsOf folder p t book listed parts → length (map_numbers listed) ≤ 1
-    → map (λ (m : MemtableView). m.partitions) (maps_in book (first_map listed)) ≡ maps_numbered book (map_numbers listed)
-first_alone folder p t book [] parts are few = refl
-first_alone folder p t book (v ∷ listed) [] are few = absurd are
-first_alone folder p t book (view_part.File number indexes ∷ listed) (q ∷ parts) are few = first_alone folder p t book listed parts are.1 few
-first_alone folder p t book (view_part.Map number ∷ listed) (q ∷ parts) are few = by (map_.get book number) are.0 ∙ ap (λ (ns : List ℕ). maps_numbered book (number ∷ ns)) (sym (none (map_numbers listed) (omega (arith, few))))
+-- the book has each map of a view
+views_are : (folder : Folder) (p : Partitioner) (t : TableParts) (book : Book) (listed : List view.Part) (parts : List Part) → ArePartsOf folder p t book listed parts
+    → map (λ (m : MemtableView). m.partitions) (views_numbered book (map_numbers listed)) ≡ maps_numbered book (map_numbers listed)
+views_are folder p t book [] parts are = refl
+views_are folder p t book (v ∷ listed) [] are = absurd are
+views_are folder p t book (view_part.File number indexes ∷ listed) (q ∷ parts) are = views_are folder p t book listed parts are.1
+views_are folder p t book (view_part.Map number ∷ listed) (q ∷ parts) are = by (map_.get book number) are.0
   where
-    none : (ns : List ℕ) → length ns ≤ 0 → ns ≡ []
-    none [] le = refl
-    none (n ∷ ns) le = absurd (omega (arith, le))
+    rest : map (λ (m : MemtableView). m.partitions) (views_numbered book (map_numbers listed)) ≡ maps_numbered book (map_numbers listed)
+    rest = views_are folder p t book listed parts are.1
 
-    by : (o : Option MapPart) → IsMapIn t o q → map (λ (m : MemtableView). m.partitions) (option_map_or (λ (part : MapPart). part.map ∷ []) o []) ≡ option_map_or (λ (m : MapPart). m.map.partitions) o map_.empty ∷ []
+    by : (o : Option MapPart) → IsMapIn t o q
+        → map (λ (m : MemtableView). m.partitions) (option_map_or (λ (part : MapPart). part.map ∷ []) o [] ++ views_numbered book (map_numbers listed)) ≡ option_map_or (λ (m : MapPart). m.map.partitions) o map_.empty ∷ maps_numbered book (map_numbers listed)
     by None is = absurd is
-    by (Some m) is = refl
+    by (Some m) is = ap (λ (ms : List Partitions). m.map.partitions ∷ ms) rest
 
 module _ (w : PlanWorld) (book : Book) (is : IsViewOf w book) where
   -- **The listed files have the contents of its parts,**
@@ -174,14 +153,14 @@ module _ (w : PlanWorld) (book : Book) (is : IsViewOf w book) where
       let have = all_listed w.folder w.partitioner w.table book w.types is.planned.types_are w.listed w.parts is.planned.parts_are in
       contents_numbered (Some w.folder) w.partitioner w.types have.files (listed_files w.listed) (contents_in_files w.parts) (sym (numbers_listed w.listed) ∙ have.numbers_are) have.contents_are
 
-  -- **and the merge of them and of its map is that of its parts.**
-  pub view_merged : merged_parts w.partitioner (contents_in_files w.parts) (maps_in book (first_map w.listed)) ≡ merged (maps_of w.parts)
+  -- **and the merge of them and of its maps is that of its parts.**
+  pub view_merged : merged_parts w.partitioner (contents_in_files w.parts) (views_numbered book (map_numbers w.listed)) ≡ merged (maps_of w.parts)
   view_merged =
       ap merged (
-      parts_are w.partitioner (contents_in_files w.parts) (maps_in book (first_map w.listed))
+      parts_are w.partitioner (contents_in_files w.parts) (views_numbered book (map_numbers w.listed))
       ∙ ap₂ (λ (a b : List Partitions). a ++ b)
       (files_made w.partitioner w.parts (view_decorated w.folder w.partitioner w.table book w.types w.relations w.listed (asked_of w.conditions) w.parts is.planned))
-      (first_alone w.folder w.partitioner w.table book w.listed w.parts is.planned.parts_are is.few ∙ all_maps w.folder w.partitioner w.table book w.types is.planned.types_are w.listed w.parts is.planned.parts_are)
+      (views_are w.folder w.partitioner w.table book w.listed w.parts is.planned.parts_are ∙ all_maps w.folder w.partitioner w.table book w.types is.planned.types_are w.listed w.parts is.planned.parts_are)
       ∙ sym (map-append (λ (part : Part). part.holds) (files_of w.parts) (in_memory w.parts))
       ∙ ap maps_of (sym is.ordered)
       )

@@ -1,5 +1,5 @@
 -- A plan that is read in a view: the world of the view, and what is left and paid before the first candidate.
-use Rattle.std.specs.Prelude.{◌≡◌, ◌⊎◌, ℕ, ◌+◌, ◌≤◌, true, false, List, [], ◌∷◌, ◌++◌, length, Option, None, Some}
+use Rattle.std.specs.Prelude.{◌≡◌, ◌⊎◌, ℕ, ◌+◌, ◌≤◌, true, false, List, [], ◌∷◌, ◌++◌, Option, None, Some}
 use Rattle.std.specs.FinMap as map_
 use Rattle.std.specs.List.{AllByRecursion, sum_by}
 use Rattle.sasi_types.specs.declared.column.ColumnType.{ColumnType}
@@ -27,7 +27,8 @@ use Rattle.sasi_recheck.specs.Sources.{Candidate, first_price}
 use Rattle.sasi_engine.specs.declared.relation.IndexedRelation.{IndexedRelation}
 use Rattle.sasi_engine.specs.Asked.{asked_of}
 use Rattle.sasi_engine.specs.HitCandidates.{IsMadeOf, PlanWorld, in_memory, looked_groups, prices_from}
-use Rattle.sasi_engine.specs.Plans.{AreShort, IsCandidateDamage, IsOneOf, is_file_of, map_numbers}
+use Rattle.sasi_engine.specs.Plans.{AreShort, IsCandidateDamage, is_file_of, map_numbers}
+use Rattle.sasi_sources.specs.Maps.{IsOneOf}
 use Rattle.sasi_engine.specs.TokenHits.{contents_in_files}
 use Rattle.sasi_engine.specs.Findable.{CanFind, HasWords}
 use Rattle.sasi_engine.specs.Views.{IsPlannedFor}
@@ -44,20 +45,13 @@ listed_files [] = []
 listed_files (File number indexes ∷ listed) = record { number = number; parts = indexes } ∷ listed_files listed
 listed_files (Map number ∷ listed) = listed_files listed
 
--- its first map
-abbrev pub first_map : List view.Part → Option ℕ
-first_map [] = None
-first_map (File number indexes ∷ listed) = first_map listed
-first_map (Map number ∷ listed) = Some number
-
 -- ---- the world
 
--- The view has these parts, the data files before a map, and each key stands under the token that the partitioner gives it.
+-- The view has these parts, the data files before the maps, and each key stands under the token that the partitioner gives it.
 pub record IsViewOf (w : PlanWorld) (book : Book) : Type 0 where
   pub planned : IsPlannedFor w.folder w.partitioner w.table book w.types w.relations w.listed (asked_of w.conditions) w.parts
   pub ordered : w.parts ≡ files_of w.parts ++ in_memory w.parts
   pub own_tokens : AreDecorated w.partitioner (merged (maps_of w.parts))
-  pub few : length (map_numbers w.listed) ≤ 1
 
 -- made of these types, relations and parts, for all keys that the relations leave, or for one of them
 abbrev pub IsMadeForTable : PlanWorld → List IndexedRelation → List ColumnType → List view.Part → Type 0

@@ -1,6 +1,6 @@
-// The data files and the map of a view.
+// The data files of a view.
 ghost use Rattle.std.specs.Prelude.{◌≡◌, ◌++◌, ◌∷◌, [], IfOk, OnOk};
-ghost use Rattle.sasi_plan.specs.Reading.{first_map, listed_files};
+ghost use Rattle.sasi_plan.specs.Reading.{listed_files};
 
 use sasi_manifest::{ListedFile, PartNumber, PartNumbers};
 use sasi_views::Part;
@@ -38,16 +38,4 @@ pub(crate) fn listed_files(alloc: Global, listed: &[Part]) -> Result<Vec<ListedF
         }
     }
     Ok(files)
-}
-
-/// The number of the first map.
-pub(crate) fn first_map(listed: &[Part]) -> Option<u64>
-    ensures { result ≡ first_map listed.now }
-{
-    for part in listed {
-        if let Part::Map(number) = part {
-            return Some(*number);
-        }
-    }
-    None
 }

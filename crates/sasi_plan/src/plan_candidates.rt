@@ -14,17 +14,18 @@ ghost use Rattle.sasi_recheck.specs.Sources.{Candidate, GivesFirst, GivesPrintab
 ghost use Rattle.sasi_sources.specs.KeyCandidates.{HasKeyType};
 ghost use Rattle.sasi_engine.specs.Findable.{CanFind, HasWords};
 ghost use Rattle.sasi_engine.specs.HitCandidates.{PlanWorld};
-ghost use Rattle.sasi_engine.specs.Plans.{IsOneOf, is_file_of, map_numbers};
-ghost use Rattle.sasi_engine.specs.TokenHits.{views_numbered};
+ghost use Rattle.sasi_engine.specs.Plans.{is_file_of, map_numbers};
+ghost use Rattle.sasi_sources.specs.Maps.{IsOneOf};
+ghost use Rattle.sasi_scan.specs.Numbered.{views_numbered};
 ghost use Rattle.sasi_plan.specs.declared.plan_candidates.Pending.{Pending as SpecPending};
 ghost use Rattle.sasi_plan.specs.Begun.{Since};
 ghost use Rattle.sasi_plan.specs.Reading.{IsMadeFor, IsMadeForKey, IsMadeForTable, IsViewOf, KeyPrices, PendingLeaves, PendingPays, PendingReady, PendingShows, PricesOf, TablePrices};
 
 use crate::PlanSource;
-use crate::parts::{first_map, listed_files};
+use crate::parts::listed_files;
 use either::{Either, Left, Right};
 use sasi_cells::Partition;
-use sasi_engine::{HitCandidates, IndexedRelation, KeyedHits};
+use sasi_engine::{HitCandidates, IndexedRelation, KeyedHits, map_numbers};
 use sasi_hits::Hits;
 use sasi_host::{Host, PageReader, ReadFault};
 use sasi_memindex::MapBook;
@@ -101,8 +102,8 @@ fn begin_scan(
 {
     let _ = &maps;
     let files = listed_files(alloc, parts)?;
-    let map = first_map(parts);
-    Ok(Right(Right(Left(ScanCandidates::new(alloc, types, files, map)))))
+    let numbers = map_numbers(alloc, parts)?;
+    Ok(Right(Right(Left(ScanCandidates::new(alloc, types, files, numbers)))))
 }
 
 // All keys that these relations leave.
@@ -170,8 +171,8 @@ fn begin_look_up(
 {
     let _ = &maps;
     let files = listed_files(alloc, parts)?;
-    let map = first_map(parts);
-    Ok(Right(Right(Right(KeyCandidates::new(alloc, types, files, map, key)))))
+    let numbers = map_numbers(alloc, parts)?;
+    Ok(Right(Right(Right(KeyCandidates::new(alloc, types, files, numbers, key)))))
 }
 
 // One key, if these relations leave it.
@@ -314,8 +315,9 @@ impl Candidates for PlanCandidates {
     ghost use Rattle.sasi_views.specs.declared.part.Part.{Part as ViewPart};
     ghost use Rattle.sasi_recheck.specs.Optional.{SourceOr};
     ghost use Rattle.sasi_sources.specs.KeyCandidates.{HasKeyType};
-    ghost use Rattle.sasi_engine.specs.Plans.{IsOneOf, is_file_of, map_numbers};
-    ghost use Rattle.sasi_engine.specs.TokenHits.{views_numbered};
+    ghost use Rattle.sasi_engine.specs.Plans.{is_file_of, map_numbers};
+    ghost use Rattle.sasi_sources.specs.Maps.{IsOneOf};
+    ghost use Rattle.sasi_scan.specs.Numbered.{views_numbered};
     ghost use Rattle.sasi_plan.specs.declared.plan_candidates.Pending.{Pending as SpecPending};
     ghost use Rattle.sasi_plan.specs.Begun.{Since};
     ghost use Rattle.sasi_plan.specs.Reading.{PendingLeaves, PendingPays, PendingReady, PendingShows};

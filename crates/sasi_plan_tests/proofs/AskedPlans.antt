@@ -10,14 +10,14 @@ use Rattle.sasi_model.specs.State.{Definition}
 use Rattle.sasi_views.specs.declared.part.Part.{Part}
 use Rattle.sasi_engine.specs.Asked.{Asked, asked_of}
 use Rattle.sasi_engine.specs.Findable.{HasWords}
-use Rattle.sasi_engine.specs.Plans.{IsOneOf}
+use Rattle.sasi_sources.specs.Maps.{IsOneOf}
 use Rattle.sasi_engine.specs.declared.relation.IndexedRelation.{IndexedRelation}
 use Rattle.sasi_plan.specs.Plans.{IsAskedOf, IsNumbered, IsSourceOf, number_on, relation_of}
 use Rattle.sasi_plan.specs.Reading.{PendingReady}
 use Rattle.sasi_plan.specs.declared.plan.PlanSource.{PlanSource}
 use Rattle.sasi_plan.specs.declared.plan.PlanSource.TheVariants.{Nothing, OfKey, OfTable}
 use Rattle.sasi_plan.proofs.PlanLaws.{all_numbered}
-use Rattle.sasi_plan_tests.specs.Fixture.{HasMap, IsOn, IsOwnPart, SourceIsOn}
+use Rattle.sasi_plan_tests.specs.Fixture.{HasMaps, IsOn, IsOwnPart, SourceIsOn}
 use Rattle.sasi_plan_tests.proofs.MapLaws.{parts_found}
 
 abbrev numbers_in : List IndexDef → List ℕ
@@ -57,7 +57,7 @@ all_words numbers [] all = tt
 all_words numbers (relation ∷ relations) all = (all.0.words, all_words numbers relations all.1)
 
 -- **So it can be read over the fixture's parts.**
-pub source_ready : (numbers : List ℕ) (book : Book) → HasMap numbers book → (listed : List Part) → AllByRecursion IsOwnPart listed → (source : PlanSource) → SourceIsOn numbers source → PendingReady source listed book
+pub source_ready : (numbers : List ℕ) (book : Book) → HasMaps numbers book → (listed : List Part) → AllByRecursion IsOwnPart listed → (source : PlanSource) → SourceIsOn numbers source → PendingReady source listed book
 source_ready numbers book has listed own Nothing on = tt
 source_ready numbers book has listed own (OfKey key relations) on = (all_words numbers relations.items on, parts_found numbers book has relations.items on listed own)
 source_ready numbers book has listed own (OfTable relations) on = (all_words numbers relations.items on, parts_found numbers book has relations.items on listed own)

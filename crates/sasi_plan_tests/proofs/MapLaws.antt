@@ -1,9 +1,8 @@
--- What a reader needs of the map, and of the parts of a view.
-use Rattle.std.proofs.Common.{◌≡◌, ℕ, Bool, true, false, ◌||◌, List, [], ◌∷◌, ◌++◌, map, Option, Some, refl, sym, ap, subst, ◌∙◌}
-use Rattle.std.specs.Cmp.{nat_cmp_total}
+-- What a reader needs of the maps, and of the parts of a view.
+use Rattle.std.proofs.Common.{◌≡◌, ℕ, Bool, true, false, ◌||◌, List, [], ◌∷◌, ◌++◌, map, Option, None, Some, refl, sym, subst, inl, inr}
 use Rattle.std.specs.FinMap as fin
 use Rattle.std.specs.List.{AllByRecursion, IsDistinct, list_any}
-use Rattle.std.specs.Option.{option_map_or}
+use Rattle.std.specs.Option.{IsSomeAnd, option_map_or}
 use Rattle.sasi_types.specs.declared.column.ColumnType.TheVariants as kinds
 use Rattle.sasi_host.specs.declared.name.FileName.{FileName}
 use Rattle.sasi_host.specs.Names.{data_name, name_eq}
@@ -14,7 +13,6 @@ use Rattle.sasi_manifest.specs.ListedFiles.{index_name}
 use Rattle.sasi_memindex.specs.Book.{Book, bare}
 use Rattle.sasi_memindex.specs.declared.map_part.MapPart.{MapPart}
 use Rattle.sasi_memtable.specs.MemtableView.{MemtableView}
-use Rattle.sasi_sources.specs.Maps.{maps_in}
 use Rattle.sasi_views.specs.declared.component.Component.TheVariants as component
 use Rattle.sasi_views.specs.declared.part.Part.{Part}
 use Rattle.sasi_views.specs.declared.part.Part.TheVariants.{File, Map}
@@ -23,27 +21,40 @@ use Rattle.sasi_views.specs.Parts.{ListsOnce}
 use Rattle.sasi_views.proofs.BookLaws.{listed_once}
 use Rattle.sasi_engine.specs.Findable.{CanFind, HasIndexFor, HasIndexes}
 use Rattle.sasi_engine.specs.Plans.{is_file_of, map_numbers, names_of}
-use Rattle.sasi_engine.specs.TokenHits.{views_numbered}
+use Rattle.sasi_scan.specs.Numbered.{views_numbered}
 use Rattle.sasi_engine.specs.declared.relation.IndexedRelation.{IndexedRelation}
-use Rattle.sasi_plan_tests.specs.Fixture.{HasMap, IsOn, IsOwnPart}
+use Rattle.sasi_plan_tests.specs.Fixture.{HasMaps, IsOn, IsOwnPart, IsTextMap}
 
--- a book to which the map was added, without indexes
-pub map_added : (old new : Book) (m : MemtableView) → new ≡ fin.insert old 1 (bare m) → AreStored kinds.Text m.partitions → HasMap [] new
-map_added old new m is stored = record {
-  part = bare m;
-  there = ap (λ (b : Book). fin.get b 1) is ∙ fin.get-insert nat_cmp_total old 1 (bare m) 1;
-  stored = stored;
-  found = λ relation on. absurd on;
-}
+-- ---- a book
+
+text_map : (found : Option MapPart) (m : MemtableView) → found ≡ Some (bare m) → AreStored kinds.Text m.partitions → IsSomeAnd found (IsTextMap [])
+text_map found m is stored = subst (λ (o : Option MapPart). IsSomeAnd o (IsTextMap [])) (sym is) (record { stored = stored; found = λ relation on. absurd on })
+
+-- a book that has these three maps, without indexes
+pub maps_there : (book : Book) (first second third : MemtableView) → fin.get book 1 ≡ Some (bare first) → fin.get book 2 ≡ Some (bare second) → fin.get book 3 ≡ Some (bare third)
+    → AreStored kinds.Text first.partitions → AreStored kinds.Text second.partitions → AreStored kinds.Text third.partitions → HasMaps [] book
+maps_there book first second third one two three in_first in_second in_third number (inl same) = subst Has (sym same) (text_map (fin.get book 1) first one in_first)
+  where
+    Has : ℕ → Type 0
+    Has n = IsSomeAnd (fin.get book n) (IsTextMap [])
+maps_there book first second third one two three in_first in_second in_third number (inr (inl same)) = subst Has (sym same) (text_map (fin.get book 2) second two in_second)
+  where
+    Has : ℕ → Type 0
+    Has n = IsSomeAnd (fin.get book n) (IsTextMap [])
+maps_there book first second third one two three in_first in_second in_third number (inr (inr (inl same))) = subst Has (sym same) (text_map (fin.get book 3) third three in_third)
+  where
+    Has : ℕ → Type 0
+    Has n = IsSomeAnd (fin.get book n) (IsTextMap [])
+maps_there book first second third one two three in_first in_second in_third number (inr (inr (inr never))) = absurd never
 
 -- ---- the parts of a view
 
-parts_apart : IsDistinct same (component.File (data_name 7) ∷ component.Map 1 ∷ [])
+parts_apart : IsDistinct same (component.File (data_name 7) ∷ component.Map 1 ∷ component.Map 2 ∷ component.Map 3 ∷ [])
 unfolding IsDistinct
-parts_apart = ((refl, tt), (tt, tt))
+parts_apart = ((refl, refl, refl, tt), (refl, refl, tt), (refl, tt), tt, tt)
 
-pub parts_once : ListsOnce (File 7 [] ∷ Map 1 ∷ [])
-parts_once = listed_once (component.File (data_name 7) ∷ component.Map 1 ∷ []) parts_apart
+pub parts_once : ListsOnce (File 7 [] ∷ Map 1 ∷ Map 2 ∷ Map 3 ∷ [])
+parts_once = listed_once (component.File (data_name 7) ∷ component.Map 1 ∷ component.Map 2 ∷ component.Map 3 ∷ []) parts_apart
 
 own_names : (part : Part) → IsOwnPart part → AllByRecursion (λ (name : FileName). name ≡ data_name 7) (names_of part)
 own_names (File number indexes) own =
@@ -60,26 +71,30 @@ own_file (part ∷ parts) own name is = by (list_any (name_eq name) (names_of pa
     by true here either rest = name_there (λ (n : FileName). n ≡ data_name 7) name (names_of part) (own_names part own.0) here
     by false apart either rest = rest either
 
--- ---- the map
+-- ---- the maps
 
-module _ (numbers : List ℕ) (book : Book) (has : HasMap numbers book) where
-  -- its keys and values can be printed
+module _ (numbers : List ℕ) (book : Book) (has : HasMaps numbers book) where
+  -- their keys and values can be printed
   pub maps_stored : (listed : List Part) → AllByRecursion IsOwnPart listed → AllByRecursion (λ (m : MemtableView). AreStored kinds.Text m.partitions) (views_numbered book (map_numbers listed))
   maps_stored [] own = tt
   maps_stored (File number indexes ∷ parts) own = maps_stored parts own.1
-  maps_stored (Map number ∷ parts) own =
-      subst (λ (n : ℕ). AllByRecursion (λ (m : MemtableView). AreStored kinds.Text m.partitions) (maps_in book (Some n) ++ views_numbered book (map_numbers parts))) (sym own.0)
-      (subst (λ (o : Option MapPart). AllByRecursion (λ (m : MemtableView). AreStored kinds.Text m.partitions) (option_map_or (λ (part : MapPart). part.map ∷ []) o [] ++ views_numbered book (map_numbers parts))) (sym has.there) (has.stored, maps_stored parts own.1))
+  maps_stored (Map number ∷ parts) own = by (fin.get book number) (has number own.0) (maps_stored parts own.1)
+    where
+      by : (o : Option MapPart) → IsSomeAnd o (IsTextMap numbers) → AllByRecursion (λ (m : MemtableView). AreStored kinds.Text m.partitions) (views_numbered book (map_numbers parts))
+          → AllByRecursion (λ (m : MemtableView). AreStored kinds.Text m.partitions) (option_map_or (λ (part : MapPart). part.map ∷ []) o [] ++ views_numbered book (map_numbers parts))
+      by None is rest = absurd is
+      by (Some part) is rest = (is.stored, rest)
 
-  indexes_found : (relations : List IndexedRelation) → AllByRecursion (IsOn numbers) relations → AllByRecursion (HasIndexFor has.part) relations
-  indexes_found [] all = tt
-  indexes_found (relation ∷ relations) all = (has.found relation all.0.listed, indexes_found relations all.1)
+  indexes_found : (part : MapPart) → IsTextMap numbers part → (relations : List IndexedRelation) → AllByRecursion (IsOn numbers) relations → AllByRecursion (HasIndexFor part) relations
+  indexes_found part is [] all = tt
+  indexes_found part is (relation ∷ relations) all = (is.found relation all.0.listed, indexes_found part is relations all.1)
 
-  -- and it has the indexes that are asked
+  has_indexes : (relations : List IndexedRelation) → AllByRecursion (IsOn numbers) relations → (o : Option MapPart) → IsSomeAnd o (IsTextMap numbers) → HasIndexes relations o
+  has_indexes relations all None is = absurd is
+  has_indexes relations all (Some part) is = indexes_found part is relations all
+
+  -- and they have the indexes that are asked
   pub parts_found : (relations : List IndexedRelation) → AllByRecursion (IsOn numbers) relations → (listed : List Part) → AllByRecursion IsOwnPart listed → AllByRecursion (CanFind book relations) listed
   parts_found relations all [] own = tt
   parts_found relations all (File number indexes ∷ parts) own = (tt, parts_found relations all parts own.1)
-  parts_found relations all (Map number ∷ parts) own = (
-    subst (λ (n : ℕ). HasIndexes relations (fin.get book n)) (sym own.0) (subst (HasIndexes relations) (sym has.there) (indexes_found relations all)),
-    parts_found relations all parts own.1,
-  )
+  parts_found relations all (Map number ∷ parts) own = (has_indexes relations all (fin.get book number) (has number own.0), parts_found relations all parts own.1)

@@ -1,10 +1,11 @@
-// A table of two texts: a data file with the row k1, and a map with a newer text of k1 and the row k2.
+// A table of two texts: a data file with the row k1, and three maps: the first has a newer text of k1 and the row k2, the second
+// has the row k3 alone, and the third has the newest text of k1.
 ghost use Rattle.std.specs.Prelude.{◌<◌, []};
 ghost use Rattle.std.specs.List.{AllByRecursion};
 ghost use Rattle.sasi_types.specs.declared.column.ColumnType.TheVariants as kinds;
 ghost use Rattle.sasi_machine.specs.TableRows.{AreStored};
 ghost use Rattle.sasi_machine.specs.Where.{HasTexts, IsText};
-ghost use Rattle.sasi_plan_tests.specs.Fixture.{HasMap, IsOwnPart};
+ghost use Rattle.sasi_plan_tests.specs.Fixture.{HasMaps, IsOwnPart};
 
 use sasi_cells::Partition;
 use sasi_host::{FileName, Kind, MemHost};
@@ -73,8 +74,8 @@ fn put(rt: &impl Abort, map: &mut Memtable, key: Key, row: Partition)
     map.put_from(key, row).expect(rt, "memory for a change");
 }
 
-/// The map: the text of k1 was written at 6, and that of k2 at 5.
-fn map_of(rt: &impl Abort, alloc: Global) -> Memtable
+/// The first map: the text of k1 was written at 6, and that of k2 at 5.
+fn first_map(rt: &impl Abort, alloc: Global) -> Memtable
     ensures { AreStored kinds.Text result.partitions }
 {
     let mut map = Memtable::new(alloc, Partitioner::Lead8);
@@ -84,17 +85,32 @@ fn map_of(rt: &impl Abort, alloc: Global) -> Memtable
     map
 }
 
-/// A book in which the map has the number 1.
+/// A map with one row, whose text was written then.
+fn one_row(rt: &impl Abort, alloc: Global, key: &[u8], time: u64, text: &str) -> Memtable
+    requires { 0 < time }
+    ensures { AreStored kinds.Text result.partitions }
+{
+    let mut map = Memtable::new(alloc, Partitioner::Lead8);
+    let key = key_of(rt, alloc, key);
+    put(rt, &mut map, key, row_of(rt, alloc, time, text));
+    map
+}
+
+/// A book in which the maps have the numbers 1 to 3.
 pub fn book_of(rt: &impl Abort, alloc: Global) -> MapBook
-    ensures { HasMap [] result }
+    ensures { HasMaps [] result }
 {
     let mut book = MapBook::new(alloc);
-    book.add(1, map_of(rt, alloc)).expect(rt, "memory");
+    book.add(1, first_map(rt, alloc)).expect(rt, "memory");
+    book.add(2, one_row(rt, alloc, b"k3", 5, "w"))
+        .expect(rt, "memory");
+    book.add(3, one_row(rt, alloc, b"k1", 7, "z"))
+        .expect(rt, "memory");
     book
 }
 
-/// The data file and the map.
-pub fn file_and_map(rt: &impl Abort, alloc: Global) -> View
+/// The data file and the maps, the oldest first.
+pub fn file_and_maps(rt: &impl Abort, alloc: Global) -> View
     ensures { AllByRecursion IsOwnPart result }
 {
     let mut parts = PartList::new(alloc);
@@ -104,5 +120,7 @@ pub fn file_and_map(rt: &impl Abort, alloc: Global) -> View
     };
     parts.push(file).expect(rt, "memory");
     parts.push(Part::Map(1)).expect(rt, "memory");
+    parts.push(Part::Map(2)).expect(rt, "memory");
+    parts.push(Part::Map(3)).expect(rt, "memory");
     ViewBook::new(alloc).take(parts).expect(rt, "memory")
 }

@@ -29,7 +29,7 @@ use Rattle.sasi_datawrite.specs.Format.{Content}
 use Rattle.sasi_dataread.specs.Finds.{partition_of}
 use Rattle.sasi_manifest.specs.declared.files.ListedFile.{ListedFile}
 use Rattle.sasi_merge.specs.Streams.{Entries, maps_of}
-use Rattle.sasi_scan.specs.Finding.{file_maps, find_reads, found_in, key_reads}
+use Rattle.sasi_scan.specs.Finding.{file_maps, find_reads, found_at, found_in, key_reads}
 use Rattle.sasi_scan.specs.Parts.{AreContents, HasContent, IsMergeOfParts, IsOfPart, entries_of, of_file, of_map, merged_parts, part_entries}
 use Rattle.sasi_scan.proofs.Costs.{reads_same}
 use Rattle.sasi_scan.proofs.Moves.{joined_of}
@@ -250,12 +250,15 @@ module _ (v w u : View) (p : Partitioner) (types : List ColumnType) (key : Decor
 
 -- ---- map by map
 
-pub maps_next : (key : DecoratedKey) (ms : List MemtableView) (at : ℕ) (m : MemtableView) (found joined_part whole : Option Partition) → at < length ms → m ≡ get_or ms at m → joined_part ≡ joined found (map_.get m.partitions key) → found_in key found (maps_in (drop at ms)) ≡ whole
+step_maps : (key : DecoratedKey) (ms : List MemtableView) (at : ℕ) (found joined_part whole : Option Partition) → at < length ms → joined_part ≡ joined found (found_at ms at key) → found_in key found (maps_in (drop at ms)) ≡ whole
+    → found_in key joined_part (maps_in (drop (suc at) ms)) ≡ whole
+step_maps key [] at found joined_part whole inside joins so_far = absurd (omega (arith, inside))
+step_maps key (m ∷ ms) zero found joined_part whole inside joins so_far = ap (λ (o : Option Partition). found_in key o (maps_in ms)) joins ∙ so_far
+step_maps key (m ∷ ms) (suc at) found joined_part whole inside joins so_far = step_maps key ms at found joined_part whole (omega (arith, inside)) joins so_far
+
+pub maps_next : (key : DecoratedKey) (ms : List MemtableView) (at : ℕ) (found joined_part whole : Option Partition) → at < length ms → joined_part ≡ joined found (found_at ms at key) → found_in key found (maps_in (drop at ms)) ≡ whole
     → found_in key joined_part (maps_in (drop (at + 1) ms)) ≡ whole
-maps_next key ms at m found joined_part whole inside is joins so_far =
-    ap (λ (o : Option Partition). found_in key o (maps_in (drop (at + 1) ms))) joins
-    ∙ ap (λ (xs : List MemtableView). found_in key found (maps_in xs)) (sym (next_left ms at m inside is))
-    ∙ so_far
+maps_next key ms at found joined_part whole inside joins so_far = rw add-one (step_maps key ms at found joined_part whole inside joins so_far)
 
 pub maps_end : (key : DecoratedKey) (ms : List MemtableView) (at : ℕ) (found whole : Option Partition) → length ms ≤ at → found_in key found (maps_in (drop at ms)) ≡ whole → found ≡ whole
 maps_end key ms at found whole most so_far = ap (λ (xs : List MemtableView). found_in key found (maps_in xs)) (sym (none_left ms at most)) ∙ so_far

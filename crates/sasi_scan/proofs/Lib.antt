@@ -6,4 +6,4 @@ pub mod Openings
 pub mod Pages
 pub mod KeyLookups
 mod KeyFinding
-mod MapHeads
+mod NumberedMaps

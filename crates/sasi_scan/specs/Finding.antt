@@ -1,6 +1,7 @@
 -- A look-up of a key in the parts of a table, and how much is read for it.
-use Rattle.std.specs.Prelude.{ℕ, ◌+◌, ◌*◌, List, [], ◌∷◌, length, map, Option}
+use Rattle.std.specs.Prelude.{ℕ, ◌+◌, ◌*◌, List, [], ◌∷◌, length, map, slice_get, Option}
 use Rattle.std.specs.FinMap.{get}
+use Rattle.std.specs.Option.{option_and_then}
 use Rattle.sasi_types.specs.declared.decorated_key.DecoratedKey.{DecoratedKey}
 use Rattle.sasi_types.specs.declared.partitioner.Partitioner.{Partitioner}
 use Rattle.sasi_types.specs.Token.{token_of}
@@ -10,12 +11,17 @@ use Rattle.sasi_cells.specs.Maps.{joined}
 use Rattle.sasi_tokentree.specs.Heights.{height}
 use Rattle.sasi_datawrite.specs.Format.{Content, header}
 use Rattle.sasi_dataread.specs.Finds.{token_reads}
+use Rattle.sasi_memtable.specs.MemtableView.{MemtableView}
 use Rattle.sasi_merge.specs.Streams.{maps_of}
 use Rattle.sasi_scan.specs.Parts.{entries_of}
 
 -- the maps of data files of these contents
 abbrev pub file_maps : Partitioner → List Content → List Partitions
 file_maps partitioner contents = maps_of (map (entries_of partitioner) contents)
+
+-- what the map at a position of maps in memory has of a key
+abbrev pub found_at : List MemtableView → ℕ → DecoratedKey → Option Partition
+found_at maps position key = option_and_then (λ (m : MemtableView). get m.partitions key) (slice_get maps position)
 
 -- what maps have of a key, the oldest first, merged onto what there is
 abbrev pub found_in : DecoratedKey → Option Partition → List Partitions → Option Partition

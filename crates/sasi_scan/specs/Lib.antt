@@ -1,3 +1,4 @@
+pub mod Numbered
 pub mod Parts
 pub mod Sources
 pub mod Left

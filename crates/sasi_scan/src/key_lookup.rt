@@ -15,15 +15,15 @@ ghost use Rattle.sasi_datawrite.specs.Format.{Content};
 ghost use Rattle.sasi_dataread.specs.Damages.{ShowsDataFile};
 ghost use Rattle.sasi_memtable.specs.MemtableView.{MemtableView};
 ghost use Rattle.sasi_manifest.specs.declared.files.ListedFile.{ListedFile as AListedFile};
-ghost use Rattle.sasi_scan.specs.Finding.{file_maps, find_reads, found_in, key_reads};
+ghost use Rattle.sasi_scan.specs.Finding.{file_maps, find_reads, found_at, found_in, key_reads};
 ghost use Rattle.sasi_scan.specs.Parts.{AreContents, HasContent, IsMergeOfParts, ShowsListed, entries_of, merged_parts};
 ghost use Rattle.sasi_scan.specs.Scanning.{ScanCauses};
 
+use crate::maps::Maps;
 use sasi_cells::Partition;
 use sasi_dataread::DataFile;
 use sasi_host::{Direct, FileName, Host, ReadFault};
 use sasi_manifest::ListedFile;
-use sasi_memtable::Memtable;
 use sasi_types::{DecoratedKey, TypeList};
 use std::alloc::{AllocError, Global};
 
@@ -34,7 +34,7 @@ pub fn find_key<H: Host>(
     host: &mut H,
     files: &[ListedFile],
     types: &TypeList,
-    maps: &[Memtable],
+    maps: &Maps,
     key: &DecoratedKey,
 ) -> Result<Option<Partition>, ReadFault>
     requires { AllByRecursion (λ (f : AListedFile). IsThere (H.view host.old) (data_name f.number)) files.now }
@@ -104,28 +104,32 @@ fn find_in_file<H: Host>(
 // Merges what maps in memory have of a key onto what was found, the oldest first.
 fn find_in_maps(
     alloc: Global,
-    maps: &[Memtable],
+    maps: &Maps,
     key: &DecoratedKey,
     found: Option<Partition>,
 ) -> Result<Option<Partition>, AllocError>
     ensures { IfOk result (λ all. all ≡ found_in key.now found (map_list (λ (m : MemtableView). m.partitions) maps.now)) }
 {
     let mut all = found;
-    for map in maps {
-        let part = find_in_map(alloc, map, key)?;
+    for position in 0..maps.len() {
+        let part = find_in_map(alloc, maps, position, key)?;
         join(alloc, &mut all, part)?;
     }
     Ok(all)
 }
 
-// A copy of what a map in memory has of a key.
+// A copy of what the map in memory at a position has of a key.
 fn find_in_map(
     alloc: Global,
-    map: &Memtable,
+    maps: &Maps,
+    position: usize,
     key: &DecoratedKey,
 ) -> Result<Option<Partition>, AllocError>
-    ensures { IfOk result (λ found. found ≡ map_.get map.now.partitions key.now) }
+    ensures { IfOk result (λ found. found ≡ found_at maps.now position key.now) }
 {
+    let Some(map) = maps.get(position) else {
+        return Ok(None);
+    };
     match map.get(key) {
         Some(part) => Ok(Some(part.copy(alloc)?)),
         None => Ok(None),

@@ -4,9 +4,11 @@
 
 mod key_lookup;
 mod map_heads;
+mod maps;
 mod source;
 mod sources;
 mod table_scan;
 
 pub use key_lookup::find_key;
+pub use maps::Maps;
 pub use table_scan::TableScan;

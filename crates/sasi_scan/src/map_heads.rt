@@ -5,7 +5,7 @@ ghost use Rattle.std.specs.Option.{option_map};
 ghost use Rattle.sasi_memtable.specs.MemtableView.{MemtableView, entries_after};
 ghost use Rattle.sasi_merge.specs.Streams.{head_of};
 
-use sasi_memtable::Memtable;
+use crate::maps::Maps;
 use sasi_merge::{Head, copy_head};
 use sasi_types::DecoratedKey;
 use std::alloc::{AllocError, Global};
@@ -14,14 +14,16 @@ use std::alloc::{AllocError, Global};
 /// there is none.
 pub fn head_after(
     alloc: Global,
-    maps: &[Memtable],
+    maps: &Maps,
     position: usize,
     key: Option<&DecoratedKey>,
 ) -> Result<Head, AllocError>
-    requires { position < length maps.now }
     ensures { IfOk result (λ head. (m : MemtableView) → slice_get maps.now position ≡ Some m → head ≡ head_of (entries_after (option_map (λ k. k.now) key.entry) (map_.entries m.partitions))) }
 {
-    match maps[position].after(key) {
+    let Some(map) = maps.get(position) else {
+        return Ok(None);
+    };
+    match map.after(key) {
         None => Ok(None),
         Some((key, part)) => copy_head(alloc, key, part),
     }

@@ -9,9 +9,9 @@ ghost use Rattle.sasi_scan.specs.Sources.{CanWalk, CanStep, NoFalseSourceDamage,
 ghost use Rattle.sasi_scan.specs.declared.source.Source.TheVariants.{File as InFile};
 
 use crate::map_heads::head_after;
+use crate::maps::Maps;
 use sasi_dataread::Walk;
 use sasi_host::{Direct, Host, ReadFault};
-use sasi_memtable::Memtable;
 use sasi_merge::Head;
 use sasi_types::DecoratedKey;
 use std::alloc::Global;
@@ -30,7 +30,7 @@ impl Source {
         &mut self,
         alloc: Global,
         host: &mut H,
-        maps: &[Memtable],
+        maps: &Maps,
         key: &DecoratedKey,
     ) -> Result<Head, ReadFault>
         requires { CanStep (H.view host.old).files maps.now self.old }

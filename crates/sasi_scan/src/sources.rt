@@ -22,12 +22,12 @@ ghost use Rattle.sasi_scan.specs.Paging.{IsPaged, MovesWithin, OpensWithin, page
 ghost use Rattle.sasi_scan.specs.Scanning.{ScanCauses};
 
 use crate::map_heads::head_after;
+use crate::maps::Maps;
 use crate::source::{Source, next_in_file};
 use sasi_cells::Partition;
 use sasi_dataread::{DataFile, Walk};
 use sasi_host::{Direct, FileName, Host, ReadFault};
 use sasi_manifest::ListedFile;
-use sasi_memtable::Memtable;
 use sasi_merge::{Head, Heads, add_head, has_key};
 use sasi_types::{DecoratedKey, TypeList};
 use std::alloc::{AllocError, Global};
@@ -119,7 +119,7 @@ fn open_file<H: Host>(
 /// Adds maps in memory, with the head of each.
 pub fn add_maps(
     alloc: Global,
-    maps: &[Memtable],
+    maps: &Maps,
     heads: &mut Heads,
     sources: &mut Vec<Source>,
 ) -> Result<(), AllocError>
@@ -137,7 +137,7 @@ pub fn add_maps(
 pub fn advance<H: Host>(
     alloc: Global,
     host: &mut H,
-    maps: &[Memtable],
+    maps: &Maps,
     key: &DecoratedKey,
     part: &mut Partition,
     heads: &mut Heads,
@@ -165,7 +165,7 @@ pub fn advance<H: Host>(
 fn advance_at<H: Host>(
     alloc: Global,
     host: &mut H,
-    maps: &[Memtable],
+    maps: &Maps,
     key: &DecoratedKey,
     heads: &mut Heads,
     sources: &mut Vec<Source>,

@@ -15,12 +15,12 @@ ghost use Rattle.sasi_scan.specs.Parts.{AreContents, IsMergeOfParts, ShowsListed
 ghost use Rattle.sasi_scan.specs.Paging.{table_reads};
 ghost use Rattle.sasi_scan.specs.Scanning.{CanScan, GivesFirst, HasReadsLeft, IsScanOf, IsScanning, MayRead, ScanCauses, scan_of};
 
+use crate::maps::Maps;
 use crate::source::Source;
 use crate::sources::{add_maps, advance, open_files};
 use sasi_cells::Partition;
 use sasi_host::{Host, ReadFault};
 use sasi_manifest::ListedFile;
-use sasi_memtable::Memtable;
 use sasi_merge::Heads;
 use sasi_types::{Key, TypeList};
 use std::alloc::Global;
@@ -52,7 +52,7 @@ impl TableScan {
         host: &mut H,
         files: &[ListedFile],
         types: &TypeList,
-        maps: &[Memtable],
+        maps: &Maps,
     ) -> Result<TableScan, ReadFault>
         requires { AllByRecursion (λ (f : AListedFile). IsThere (H.view host.old) (data_name f.number)) files.now }
         // The whole merge is left.
@@ -81,7 +81,7 @@ impl TableScan {
         &mut self,
         alloc: Global,
         host: &mut H,
-        maps: &[Memtable],
+        maps: &Maps,
     ) -> Result<Option<(Key, Partition)>, ReadFault>
         requires { CanScan (H.view host.old).files maps.now self.old }
         ensures next { IfOk result (λ found. (partitioner : Partitioner) (left : Entries) → IsScanning (H.view host.old).files partitioner maps.now self.old left → GivesFirst (H.view host.old).files partitioner maps.now left self.new found) }
@@ -104,7 +104,7 @@ impl TableScan {
 fn next_of<H: Host>(
     alloc: Global,
     host: &mut H,
-    maps: &[Memtable],
+    maps: &Maps,
     heads: &mut Heads,
     sources: &mut Vec<Source>,
 ) -> Result<Option<(Key, Partition)>, ReadFault>

@@ -15,20 +15,19 @@ ghost use Rattle.sasi_memindex.specs.Book.{Book};
 ghost use Rattle.sasi_datawrite.specs.Format.{Content};
 ghost use Rattle.sasi_manifest.specs.declared.files.ListedFile.{ListedFile as AListedFile};
 ghost use Rattle.sasi_scan.specs.Finding.{key_reads};
+ghost use Rattle.sasi_scan.specs.Numbered.{views_numbered};
 ghost use Rattle.sasi_scan.specs.Parts.{ShowsListed, merged_parts};
 ghost use Rattle.sasi_scan.specs.Scanning.{ScanCauses};
 ghost use Rattle.sasi_recheck.specs.Sources.{GivesPrintable, first_price};
 ghost use Rattle.sasi_sources.specs.KeyCandidates.{HasKeyType, IsKeyOf, IsListed, found_of};
-ghost use Rattle.sasi_sources.specs.Maps.{IsMap, maps_in};
+ghost use Rattle.sasi_sources.specs.Maps.{IsOneOf};
 
-use crate::maps::maps_in;
 use sasi_cells::Partition;
 use sasi_host::{Host, PageReader, ReadFault};
 use sasi_manifest::ListedFile;
 use sasi_memindex::MapBook;
-use sasi_memtable::Memtable;
 use sasi_recheck::Candidates;
-use sasi_scan::find_key;
+use sasi_scan::{Maps, find_key};
 use sasi_types::{DecoratedKey, Key, TypeList};
 use std::alloc::Global;
 
@@ -38,37 +37,38 @@ pub struct KeyCandidates {
     alloc: Global,
     types: TypeList,
     files: Vec<ListedFile>,
-    map: Option<u64>,
+    maps: Vec<u64>,
     // None once it was looked up.
     key: Option<DecoratedKey>,
 }
 
 impl KeyCandidates {
-    /// This key, in the listed data files of a table with these types and in a map, the files before it. It reads nothing yet.
+    /// This key, in the listed data files of a table with these types, and in the maps with these numbers, which come behind the
+    /// files, the oldest first. It reads nothing yet.
     pub fn new(
         alloc: Global,
         types: TypeList,
         files: Vec<ListedFile>,
-        map: Option<u64>,
+        maps: Vec<u64>,
         key: DecoratedKey,
     ) -> KeyCandidates
         ensures leaves { (seen : Option Folder) (book : Book) (partitioner : Partitioner) (contents : List Content) → IsKeyOf seen types files.items key partitioner contents
-            → ⟦<KeyCandidates as Candidates>⟧.leaves result seen book (found_of key (map_.get (merged_parts partitioner contents (maps_in book map)) key)) }
+            → ⟦<KeyCandidates as Candidates>⟧.leaves result seen book (found_of key (map_.get (merged_parts partitioner contents (views_numbered book maps.items)) key)) }
         // It takes the reads of one look-up.
         ensures pays { (seen : Option Folder) (book : Book) (partitioner : Partitioner) (contents : List Content) (most : ℕ) (prices : List ℕ) → IsKeyOf seen types files.items key partitioner contents
             → key_reads partitioner key.key contents ≤ most + first_price prices → ⟦<KeyCandidates as Candidates>⟧.pays result seen book most prices }
         ensures ready { (seen : Option Folder) (book : Book) → ⟦<KeyCandidates as Candidates>⟧.ready result seen book }
-        ensures prints { (seen : Option Folder) (book : Book) (kind : ColumnType) → HasKeyType types (maps_in book map) kind → ⟦<KeyCandidates as Candidates>⟧.prints result seen book kind }
-        // It reads these files and this map alone.
+        ensures prints { (seen : Option Folder) (book : Book) (kind : ColumnType) → HasKeyType types (views_numbered book maps.items) kind → ⟦<KeyCandidates as Candidates>⟧.prints result seen book kind }
+        // It reads these files and these maps alone.
         ensures opens { (name : FileName) → ⟦<KeyCandidates as Candidates>⟧.opens result name → IsListed files.items name }
-        ensures uses { (number : ℕ) → ⟦<KeyCandidates as Candidates>⟧.uses result number → IsMap map number }
+        ensures uses { (number : ℕ) → ⟦<KeyCandidates as Candidates>⟧.uses result number → IsOneOf maps.items number }
         ensures shows { (seen : Option Folder) (damage : Damage) → ⟦<KeyCandidates as Candidates>⟧.shows result seen damage → ShowsListed seen files.items types damage }
     {
         KeyCandidates {
             alloc,
             types,
             files,
-            map,
+            maps,
             key: Some(key),
         }
     }
@@ -76,27 +76,28 @@ impl KeyCandidates {
 
 impl Candidates for KeyCandidates {
     ghost use Rattle.sasi_sources.specs.KeyCandidates.{HasKeyType, IsListed, KeyLeaves, KeyPays};
-    ghost use Rattle.sasi_sources.specs.Maps.{IsMap, maps_in};
+    ghost use Rattle.sasi_sources.specs.Maps.{IsOneOf};
     ghost use Rattle.sasi_sources.specs.inside.KeyLaws.{key_keeps};
+    ghost use Rattle.sasi_scan.specs.Numbered.{views_numbered};
     ghost use Rattle.sasi_scan.specs.Parts.{ShowsListed};
 
-    ghost leaves = { λ s files book left. KeyLeaves s.types s.files.items s.key files (maps_in book s.map) left };
+    ghost leaves = { λ s files book left. KeyLeaves s.types s.files.items s.key files (views_numbered book s.maps.items) left };
 
     ghost pays = { λ s files book most prices. KeyPays s.types s.files.items s.key files most prices };
 
     ghost opens = { λ s name. IsListed s.files.items name };
 
-    ghost uses = { λ s number. IsMap s.map number };
+    ghost uses = { λ s number. IsOneOf s.maps.items number };
 
     ghost ready = { λ s files book. Unit {0} };
 
     ghost shows = { λ s files damage. ShowsListed files s.files.items s.types damage };
 
-    ghost prints = { λ s files book kind. HasKeyType s.types (maps_in book s.map) kind };
+    ghost prints = { λ s files book kind. HasKeyType s.types (views_numbered book s.maps.items) kind };
 
     ghost kept = { λ _. tt };
 
-    ghost keeps = { λ s old new was now told same maps. key_keeps s.types s.files.items s.key s.map old new was now same maps };
+    ghost keeps = { λ s old new was now told same maps. key_keeps s.types s.files.items s.key s.maps.items old new was now same maps };
 
     fn next<H: Host, P: PageReader>(
         &mut self,
@@ -108,14 +109,8 @@ impl Candidates for KeyCandidates {
         let Some(key) = self.key.take() else {
             return Ok(None);
         };
-        find_candidate(
-            self.alloc,
-            host,
-            maps_in(maps, self.map),
-            &self.files,
-            &self.types,
-            key,
-        )
+        let maps = Maps::new(maps, &self.maps);
+        find_candidate(self.alloc, host, &maps, &self.files, &self.types, key)
     }
 }
 
@@ -123,7 +118,7 @@ impl Candidates for KeyCandidates {
 fn find_candidate<H: Host>(
     alloc: Global,
     host: &mut H,
-    maps: &[Memtable],
+    maps: &Maps,
     files: &[ListedFile],
     types: &TypeList,
     key: DecoratedKey,

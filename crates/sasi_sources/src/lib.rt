@@ -3,7 +3,6 @@
 #![tactic(auto)]
 
 mod key_candidates;
-mod maps;
 mod scan_candidates;
 
 pub use key_candidates::KeyCandidates;

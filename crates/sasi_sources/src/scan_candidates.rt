@@ -15,21 +15,20 @@ ghost use Rattle.sasi_datawrite.specs.Format.{Content};
 ghost use Rattle.sasi_manifest.specs.declared.files.ListedFile.{ListedFile as AListedFile};
 ghost use Rattle.sasi_ranges.specs.StreamCalls.{Spends};
 ghost use Rattle.sasi_scan.specs.Paging.{table_reads};
+ghost use Rattle.sasi_scan.specs.Numbered.{views_numbered};
 ghost use Rattle.sasi_scan.specs.Parts.{AreContents, ShowsListed, merged_parts};
 ghost use Rattle.sasi_scan.specs.Scanning.{ScanCauses};
 ghost use Rattle.sasi_recheck.specs.Sources.{Candidate, GivesFirst, GivesPrintable, first_price};
 ghost use Rattle.sasi_sources.specs.KeyCandidates.{HasKeyType, IsListed};
-ghost use Rattle.sasi_sources.specs.Maps.{IsMap, maps_in};
+ghost use Rattle.sasi_sources.specs.Maps.{IsOneOf};
 ghost use Rattle.sasi_sources.specs.ScanCandidates.{ScanLeaves, ScanPays, ScanReady, SpendsTo};
 
-use crate::maps::maps_in;
 use sasi_cells::Partition;
 use sasi_host::{Host, PageReader, ReadFault};
 use sasi_manifest::ListedFile;
 use sasi_memindex::MapBook;
-use sasi_memtable::Memtable;
 use sasi_recheck::Candidates;
-use sasi_scan::TableScan;
+use sasi_scan::{Maps, TableScan};
 use sasi_types::{Key, TypeList};
 use std::alloc::Global;
 
@@ -39,36 +38,37 @@ pub struct ScanCandidates {
     alloc: Global,
     types: TypeList,
     files: Vec<ListedFile>,
-    map: Option<u64>,
+    maps: Vec<u64>,
     // None before the first candidate.
     scan: Option<TableScan>,
 }
 
 impl ScanCandidates {
-    /// All keys of the listed data files of a table with these types and of a map, the files before it. It reads nothing yet.
+    /// All keys of the listed data files of a table with these types, and of the maps with these numbers, which come behind the
+    /// files, the oldest first. It reads nothing yet.
     pub fn new(
         alloc: Global,
         types: TypeList,
         files: Vec<ListedFile>,
-        map: Option<u64>,
+        maps: Vec<u64>,
     ) -> ScanCandidates
         ensures leaves { (seen : Option Folder) (book : Book) (partitioner : Partitioner) (contents : List Content) → AreContents seen partitioner types files.items contents
-            → ⟦<ScanCandidates as Candidates>⟧.leaves result seen book (map_.entries (merged_parts partitioner contents (maps_in book map))) }
+            → ⟦<ScanCandidates as Candidates>⟧.leaves result seen book (map_.entries (merged_parts partitioner contents (views_numbered book maps.items))) }
         // It takes each page of the files twice, and three reads more of each.
         ensures pays { (seen : Option Folder) (book : Book) (partitioner : Partitioner) (contents : List Content) (most : ℕ) (prices : List ℕ) → AreContents seen partitioner types files.items contents
             → table_reads seen files.items ≤ most + first_price prices → ⟦<ScanCandidates as Candidates>⟧.pays result seen book most prices }
         ensures ready { (seen : Option Folder) (book : Book) → ⟦<ScanCandidates as Candidates>⟧.ready result seen book }
-        ensures prints { (seen : Option Folder) (book : Book) (kind : ColumnType) → HasKeyType types (maps_in book map) kind → ⟦<ScanCandidates as Candidates>⟧.prints result seen book kind }
-        // It reads these files and this map alone.
+        ensures prints { (seen : Option Folder) (book : Book) (kind : ColumnType) → HasKeyType types (views_numbered book maps.items) kind → ⟦<ScanCandidates as Candidates>⟧.prints result seen book kind }
+        // It reads these files and these maps alone.
         ensures opens { (name : FileName) → ⟦<ScanCandidates as Candidates>⟧.opens result name → IsListed files.items name }
-        ensures uses { (number : ℕ) → ⟦<ScanCandidates as Candidates>⟧.uses result number → IsMap map number }
+        ensures uses { (number : ℕ) → ⟦<ScanCandidates as Candidates>⟧.uses result number → IsOneOf maps.items number }
         ensures shows { (seen : Option Folder) (damage : Damage) → ⟦<ScanCandidates as Candidates>⟧.shows result seen damage → ShowsListed seen files.items types damage }
     {
         ScanCandidates {
             alloc,
             types,
             files,
-            map,
+            maps,
             scan: None,
         }
     }
@@ -76,28 +76,29 @@ impl ScanCandidates {
 
 impl Candidates for ScanCandidates {
     ghost use Rattle.sasi_sources.specs.KeyCandidates.{HasKeyType, IsListed};
-    ghost use Rattle.sasi_sources.specs.Maps.{IsMap, maps_in};
+    ghost use Rattle.sasi_sources.specs.Maps.{IsOneOf};
     ghost use Rattle.sasi_sources.specs.ScanCandidates.{ScanLeaves, ScanPays, ScanReady};
     ghost use Rattle.sasi_sources.specs.inside.ScanLaws.{scan_keeps};
+    ghost use Rattle.sasi_scan.specs.Numbered.{views_numbered};
     ghost use Rattle.sasi_scan.specs.Parts.{ShowsListed};
 
-    ghost leaves = { λ s files book left. ScanLeaves s.types s.files.items s.scan files (maps_in book s.map) left };
+    ghost leaves = { λ s files book left. ScanLeaves s.types s.files.items s.scan files (views_numbered book s.maps.items) left };
 
-    ghost pays = { λ s files book most prices. ScanPays s.types s.files.items s.scan files (maps_in book s.map) most prices };
+    ghost pays = { λ s files book most prices. ScanPays s.types s.files.items s.scan files (views_numbered book s.maps.items) most prices };
 
     ghost opens = { λ s name. IsListed s.files.items name };
 
-    ghost uses = { λ s number. IsMap s.map number };
+    ghost uses = { λ s number. IsOneOf s.maps.items number };
 
-    ghost ready = { λ s files book. ScanReady s.types s.files.items s.scan files (maps_in book s.map) };
+    ghost ready = { λ s files book. ScanReady s.types s.files.items s.scan files (views_numbered book s.maps.items) };
 
     ghost shows = { λ s files damage. ShowsListed files s.files.items s.types damage };
 
-    ghost prints = { λ s files book kind. HasKeyType s.types (maps_in book s.map) kind };
+    ghost prints = { λ s files book kind. HasKeyType s.types (views_numbered book s.maps.items) kind };
 
     ghost kept = { λ _. tt };
 
-    ghost keeps = { λ s old new was now told same maps. scan_keeps s.types s.files.items s.scan s.map old new was now told same maps };
+    ghost keeps = { λ s old new was now told same maps. scan_keeps s.types s.files.items s.scan s.maps.items old new was now told same maps };
 
     fn next<H: Host, P: PageReader>(
         &mut self,
@@ -106,11 +107,11 @@ impl Candidates for ScanCandidates {
         maps: &MapBook,
     ) -> Result<Option<(Key, Partition)>, ReadFault> {
         let _ = &pages;
-        let maps = maps_in(maps, self.map);
+        let maps = Maps::new(maps, &self.maps);
         next_of(
             self.alloc,
             host,
-            maps,
+            &maps,
             &self.files,
             &self.types,
             &mut self.scan,
@@ -122,7 +123,7 @@ impl Candidates for ScanCandidates {
 fn next_of<H: Host>(
     alloc: Global,
     host: &mut H,
-    maps: &[Memtable],
+    maps: &Maps,
     files: &[ListedFile],
     types: &TypeList,
     scan: &mut Option<TableScan>,
@@ -153,7 +154,7 @@ fn next_of<H: Host>(
 fn begin<H: Host>(
     alloc: Global,
     host: &mut H,
-    maps: &[Memtable],
+    maps: &Maps,
     files: &[ListedFile],
     types: &TypeList,
 ) -> Result<(TableScan, Option<(Key, Partition)>), ReadFault>

@@ -1,7 +1,7 @@
 // One source of candidates or another, or none.
 ghost use Rattle.sasi_sources_tests.specs.Sources.{Begins};
 
-use crate::steps::check_new;
+use crate::steps::{Want, check_new};
 use crate::{key_look_ups, table_scans};
 use either::{Either, Left, Right};
 use sasi_recheck::Candidates;
@@ -36,13 +36,14 @@ fn nothing() -> Choice
 #[test]
 fn the_one_source_is_asked(rt: HostRuntime) {
     let source = scan_of(&rt, rt.alloc());
-    check_new(&rt, rt.alloc(), source, &[(b"k1", 2, 6), (b"k2", 1, 5)]);
+    let wanted: [Want<'_>; 3] = [(b"k1", 2, 7), (b"k2", 1, 5), (b"k3", 1, 5)];
+    check_new(&rt, rt.alloc(), source, &wanted);
 }
 
 #[test]
 fn the_other_source_is_asked(rt: HostRuntime) {
     let source = look_up_of(&rt, rt.alloc(), b"k1");
-    check_new(&rt, rt.alloc(), source, &[(b"k1", 2, 6)]);
+    check_new(&rt, rt.alloc(), source, &[(b"k1", 2, 7)]);
 }
 
 #[test]

@@ -1,7 +1,7 @@
 // Look-ups of the key that a WHERE asks for.
 ghost use Rattle.sasi_sources_tests.specs.Sources.{Begins};
 
-use crate::fixture::{files_of, key_of, types_of};
+use crate::fixture::{files_of, key_of, numbers_of, types_of};
 use crate::steps::check_new;
 use sasi_memtable::decorated;
 use sasi_recheck::Candidates;
@@ -10,16 +10,17 @@ use sasi_types::Partitioner;
 use std::alloc::Global;
 use std::process::Abort;
 
-/// The look-up of a key in the data file and the map 1.
+/// The look-up of a key in the data file and the three maps.
 pub fn source_of(rt: &impl Abort, alloc: Global, key: &[u8]) -> KeyCandidates
     ensures { Begins ⟦<KeyCandidates as Candidates>⟧.opens ⟦<KeyCandidates as Candidates>⟧.ready ⟦<KeyCandidates as Candidates>⟧.prints result }
 {
     let key = decorated(Partitioner::Lead8, key_of(rt, alloc, key));
+    let numbers = numbers_of(rt, alloc);
     KeyCandidates::new(
         alloc,
         types_of(rt, alloc),
         files_of(rt, alloc),
-        Some(1),
+        numbers,
         key,
     )
 }
@@ -29,19 +30,32 @@ fn file_source_of(rt: &impl Abort, alloc: Global, key: &[u8]) -> KeyCandidates
     ensures { Begins ⟦<KeyCandidates as Candidates>⟧.opens ⟦<KeyCandidates as Candidates>⟧.ready ⟦<KeyCandidates as Candidates>⟧.prints result }
 {
     let key = decorated(Partitioner::Lead8, key_of(rt, alloc, key));
-    KeyCandidates::new(alloc, types_of(rt, alloc), files_of(rt, alloc), None, key)
+    let numbers = Vec::new(alloc);
+    KeyCandidates::new(
+        alloc,
+        types_of(rt, alloc),
+        files_of(rt, alloc),
+        numbers,
+        key,
+    )
 }
 
 #[test]
-fn key_is_found_in_file_and_map(rt: HostRuntime) {
+fn newest_of_file_and_maps_wins(rt: HostRuntime) {
     let source = source_of(&rt, rt.alloc(), b"k1");
-    check_new(&rt, rt.alloc(), source, &[(b"k1", 2, 6)]);
+    check_new(&rt, rt.alloc(), source, &[(b"k1", 2, 7)]);
 }
 
 #[test]
-fn key_is_found_in_the_map_alone(rt: HostRuntime) {
+fn key_is_found_in_the_first_map_alone(rt: HostRuntime) {
     let source = source_of(&rt, rt.alloc(), b"k2");
     check_new(&rt, rt.alloc(), source, &[(b"k2", 1, 5)]);
+}
+
+#[test]
+fn key_is_found_in_a_later_map_alone(rt: HostRuntime) {
+    let source = source_of(&rt, rt.alloc(), b"k3");
+    check_new(&rt, rt.alloc(), source, &[(b"k3", 1, 5)]);
 }
 
 #[test]

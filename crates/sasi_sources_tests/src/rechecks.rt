@@ -4,7 +4,7 @@ ghost use Rattle.sasi_types.specs.declared.class.Class.{Class};
 ghost use Rattle.sasi_types.specs.declared.column.ColumnType.TheVariants as kinds;
 ghost use Rattle.sasi_ranges.specs.StreamCalls.{CanStream};
 ghost use Rattle.sasi_recheck.specs.Rows.{KnowsWhere};
-ghost use Rattle.sasi_sources_tests.specs.Sources.{Begins, HasTextMap};
+ghost use Rattle.sasi_sources_tests.specs.Sources.{Begins, HasTextMaps};
 
 use crate::fixture::{DATA, book_of, host_of};
 use crate::queries::query_of;
@@ -82,7 +82,7 @@ fn check_select<C: Candidates + Drop>(
     left: &[Want<'_>],
 )
     requires source { Begins C.opens C.ready C.prints source }
-    requires maps { HasTextMap maps.now }
+    requires maps { HasTextMaps maps.now }
     requires known { (classes : List Class) → KnowsWhere classes query.filter }
 {
     let mut host = host_of(rt, alloc);
@@ -116,26 +116,34 @@ fn check_scan(
 
 #[test]
 fn all_rows_are_given(rt: HostRuntime) {
-    check_scan(&rt, rt.alloc(), "SELECT k FROM t;", &[b"k1", b"k2"], 2, &[]);
+    check_scan(
+        &rt,
+        rt.alloc(),
+        "SELECT k FROM t;",
+        &[b"k1", b"k2", b"k3"],
+        3,
+        &[],
+    );
 }
 
-// The data file has the text x of k1, which the map overwrites.
+// The data file has the text x of k1, which the maps overwrite.
 #[test]
 fn rejected_candidates_are_counted(rt: HostRuntime) {
     let piece = "SELECT k FROM t WHERE a = 'x' ALLOW FILTERING;";
-    check_scan(&rt, rt.alloc(), piece, &[b"k2"], 2, &[]);
+    check_scan(&rt, rt.alloc(), piece, &[b"k2"], 3, &[]);
 }
 
 #[test]
 fn nothing_is_looked_at_behind_the_limit(rt: HostRuntime) {
     let piece = "SELECT k FROM t LIMIT 1;";
-    check_scan(&rt, rt.alloc(), piece, &[b"k1"], 1, &[(b"k2", 1, 5)]);
+    let left: [Want<'_>; 2] = [(b"k2", 1, 5), (b"k3", 1, 5)];
+    check_scan(&rt, rt.alloc(), piece, &[b"k1"], 1, &left);
 }
 
 #[test]
 fn limit_counts_rows_that_are_accepted(rt: HostRuntime) {
     let piece = "SELECT k FROM t WHERE a = 'x' LIMIT 1 ALLOW FILTERING;";
-    check_scan(&rt, rt.alloc(), piece, &[b"k2"], 2, &[]);
+    check_scan(&rt, rt.alloc(), piece, &[b"k2"], 2, &[(b"k3", 1, 5)]);
 }
 
 #[test]

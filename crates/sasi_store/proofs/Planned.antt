@@ -38,7 +38,7 @@ use Rattle.sasi_engine.specs.declared.relation.IndexedRelation.{IndexedRelation}
 use Rattle.sasi_engine.specs.Asked.{Asked, asked_of}
 use Rattle.sasi_engine.specs.Findable.{CanFind, HasWords}
 use Rattle.sasi_engine.specs.Plans.{map_numbers}
-use Rattle.sasi_engine.specs.TokenHits.{views_numbered}
+use Rattle.sasi_scan.specs.Numbered.{views_numbered}
 use Rattle.sasi_plan.specs.Plans.{IsNumbered, IsSourceOf, PlanView, number_on, relation_of}
 use Rattle.sasi_plan.specs.Reading.{PendingReady}
 use Rattle.sasi_plan.specs.declared.plan.PlanSource.{PlanSource}

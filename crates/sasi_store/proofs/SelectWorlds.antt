@@ -60,7 +60,7 @@ use Rattle.sasi_store.specs.ViewParts.{current_parts, listed_parts, memtable_num
 use Rattle.sasi_store.specs.declared.parts.Parts.{Parts}
 use Rattle.sasi_store.proofs.TablesInMemory.{map_there, seen_as}
 use Rattle.sasi_store.proofs.ViewFiles.{view_files}
-use Rattle.sasi_store.proofs.ViewWorlds.{files_first, merged_table, own_indexes, view_maps, view_planned, view_tokens, view_world}
+use Rattle.sasi_store.proofs.ViewWorlds.{files_first, merged_table, own_indexes, view_planned, view_tokens, view_world}
 
 -- ---- rows
 
@@ -185,7 +185,6 @@ module _ (v : View) (sound : IsSound v) (p : Parts) (of : IsOfParts p) (ready : 
       planned = view_planned v sound p of ready rows.table l serves t table.1 folder now relations asked asked_are;
       ordered = files_first t;
       own_tokens = view_tokens v sound p of ready rows.table l serves t table.1 folder now;
-      few = view_maps p rows.table;
     }
 
     made_for : (source : PlanSource) → IsSourceOf q defs plan.conditions source → IsMadeFor world source plan.types (current_parts p rows.table)

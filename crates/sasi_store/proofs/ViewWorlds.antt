@@ -1,5 +1,5 @@
 -- The world of a plan over the current parts of a table.
-use Rattle.std.proofs.Common.{◌≡◌, ℕ, suc, ◌-◌, ◌≤◌, Bool, true, false, cond, ◌||◌, nat_eq, is_some, List, [], ◌∷◌, ◌++◌, length, map, slice_get, Option, None, Some, refl, sym, ap, ap₂, subst, ◌∙◌, arith, append-nil}
+use Rattle.std.proofs.Common.{◌≡◌, ℕ, suc, ◌-◌, Bool, true, false, cond, ◌||◌, nat_eq, is_some, List, [], ◌∷◌, ◌++◌, length, map, slice_get, Option, None, Some, refl, sym, ap, ap₂, subst, ◌∙◌, arith, append-nil}
 use Rattle.std.proofs.lemmas.Bool.Decides.{nat_tests}
 use Rattle.std.specs.FinMap.{get}
 use Rattle.std.specs.List.{AllByRecursion, zip}
@@ -47,7 +47,7 @@ use Rattle.sasi_engine.specs.Views.{AreAsked, ArePartsOf, IsMapIn, IsMapOf, IsPl
 use Rattle.sasi_engine.specs.Findable as found
 use Rattle.sasi_engine.specs.Findable.{HasIndexFor}
 use Rattle.sasi_engine.specs.Findable.{CanFind}
-use Rattle.sasi_engine.specs.TokenHits.{views_numbered}
+use Rattle.sasi_scan.specs.Numbered.{views_numbered}
 use Rattle.sasi_store.specs.Held.{HasIndexes, IsIndexed, Subject, held_by, subject_in, subjects_of}
 use Rattle.sasi_store.specs.StoreView.{IsOfParts, held_in, memory_of, wanted_of}
 use Rattle.sasi_store.specs.ViewParts.{current_parts, file_part, listed_parts, memtable_number}
@@ -80,10 +80,6 @@ module _ (t : TableParts) where
 one_map : (fs : List ListedFile) (memtable : ℕ) → map_numbers (listed_parts fs memtable) ≡ memtable ∷ []
 one_map [] memtable = refl
 one_map (f ∷ fs) memtable = one_map fs memtable
-
--- **A view has one map.**
-pub view_maps : (p : Parts) (number : ℕ) → length (map_numbers (current_parts p number)) ≤ 1
-view_maps p number = let one = one_map (edits.files_of p.manifest.listing.tables number) (memtable_number p.tables.items number) in omega (arith, ap length one)
 
 -- ---- tokens
 

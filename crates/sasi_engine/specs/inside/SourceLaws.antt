@@ -1,5 +1,5 @@
 -- What is known of a source of candidates stays while its files are unchanged, and its maps but for indexes that were added.
-use Rattle.std.proofs.Common.{◌≡◌, ℕ, List, [], ◌∷◌, ◌++◌, Option, None, Some, IfSome, refl, ap₂, subst, sym, ◌∙◌, inl, inr}
+use Rattle.std.proofs.Common.{◌≡◌, ℕ, List, [], ◌∷◌, Option, None, Some, IfSome, refl, ap₂, subst, sym, ◌∙◌, inl, inr}
 use Rattle.std.specs.FinMap.{empty, get}
 use Rattle.std.specs.Option.{IsSomeAnd}
 use Rattle.sasi_types.specs.declared.column.ColumnType.{ColumnType}
@@ -17,13 +17,14 @@ use Rattle.sasi_recheck.specs.Growth.{IsGrown}
 use Rattle.sasi_recheck.specs.Sources.{Candidate}
 use Rattle.sasi_recheck.proofs.GrowthLaws.{grown_seen}
 use Rattle.sasi_sources.specs.KeyCandidates.{HasKeyType}
+use Rattle.sasi_sources.specs.inside.KeyLaws.{views_stay}
 use Rattle.sasi_engine.specs.declared.hand.Hand.{Hand}
 use Rattle.sasi_engine.specs.HitCandidates.{IsLeft, PlanWorld}
-use Rattle.sasi_engine.specs.Plans.{IsOneOf}
+use Rattle.sasi_sources.specs.Maps.{IsOneOf}
 use Rattle.sasi_engine.specs.TokenHits.{contents_in_files, maps_numbered}
 use Rattle.sasi_engine.specs.inside.KeyedSteps.{IsKeyLeft, KeyLeaves, KeyOwes}
 use Rattle.sasi_engine.specs.inside.Steps.{IsHandReady, SourceLeaves, SourceOpens, SourceOwes}
-use Rattle.sasi_engine.specs.TokenHits.{views_numbered}
+use Rattle.sasi_scan.specs.Numbered.{views_numbered}
 
 -- ---- maps
 
@@ -31,11 +32,6 @@ pub maps_stay : (was now : Book) (numbers : List ℕ) → ((number : ℕ) → Is
 maps_stay was now [] same = refl
 maps_stay was now (n ∷ ns) same =
     ap₂ (λ (m : Partitions) (ms : List Partitions). m ∷ ms) (grown_seen (λ (m : MemtableView). m.partitions) empty (get was n) (get now n) (same n (inl refl))) (maps_stay was now ns (λ number is. same number (inr is)))
-
-pub views_stay : (was now : Book) (numbers : List ℕ) → ((number : ℕ) → IsOneOf numbers number → IsGrown (get was number) (get now number)) → views_numbered now numbers ≡ views_numbered was numbers
-views_stay was now [] same = refl
-views_stay was now (n ∷ ns) same =
-    ap₂ (λ (here ms : List MemtableView). here ++ ms) (grown_seen (λ (m : MemtableView). m ∷ []) [] (get was n) (get now n) (same n (inl refl))) (views_stay was now ns (λ number is. same number (inr is)))
 
 -- ---- a source
 

@@ -21,9 +21,10 @@ use Rattle.sasi_recheck.specs.Optional.{SourceOr}
 use Rattle.sasi_recheck.specs.Sources.{Candidate}
 use Rattle.sasi_sources.specs.KeyCandidates.{HasKeyType}
 use Rattle.sasi_engine.specs.HitCandidates.{PlanWorld}
-use Rattle.sasi_engine.specs.Plans.{IsOneOf, is_file_of, map_numbers}
-use Rattle.sasi_engine.specs.TokenHits.{views_numbered}
-use Rattle.sasi_engine.specs.inside.SourceLaws.{views_stay}
+use Rattle.sasi_engine.specs.Plans.{is_file_of, map_numbers}
+use Rattle.sasi_sources.specs.Maps.{IsOneOf}
+use Rattle.sasi_scan.specs.Numbered.{views_numbered}
+use Rattle.sasi_sources.specs.inside.KeyLaws.{views_stay}
 use Rattle.sasi_plan.specs.declared.plan.PlanSource.{PlanSource}
 use Rattle.sasi_plan.specs.declared.plan.PlanSource.TheVariants.{Nothing, OfKey, OfTable}
 use Rattle.sasi_plan.specs.declared.plan_candidates.Pending.{Pending}

@@ -1,5 +1,5 @@
--- What is known of a look-up of a key stays while its files are unchanged, and its map but for indexes that were added.
-use Rattle.std.proofs.Common.{◌≡◌, ℕ, List, [], ◌∷◌, Option, None, Some, refl, sym, subst, ◌∙◌, inl, inr}
+-- What is known of a look-up of a key stays while its files are unchanged, and its maps but for indexes that were added.
+use Rattle.std.proofs.Common.{◌≡◌, ℕ, List, [], ◌∷◌, Option, None, Some, ◌++◌, refl, sym, ap₂, subst, ◌∙◌, inl, inr}
 use Rattle.std.specs.FinMap.{get}
 use Rattle.std.specs.List.{AllByRecursion}
 use Rattle.sasi_types.specs.declared.column.ColumnType.{ColumnType}
@@ -12,18 +12,21 @@ use Rattle.sasi_datawrite.specs.Format.{Content}
 use Rattle.sasi_manifest.specs.declared.files.ListedFile.{ListedFile}
 use Rattle.sasi_memindex.specs.Book.{Book}
 use Rattle.sasi_memtable.specs.MemtableView.{MemtableView}
+use Rattle.sasi_scan.specs.Numbered.{views_numbered}
 use Rattle.sasi_scan.specs.Parts.{AreContents, HasContent}
 use Rattle.sasi_recheck.specs.Growth.{IsGrown}
 use Rattle.sasi_recheck.proofs.GrowthLaws.{grown_seen}
 use Rattle.sasi_recheck.specs.Sources.{Candidate}
 use Rattle.sasi_sources.specs.KeyCandidates.{HasKeyType, IsKeyOf, IsListed, KeyLeaves, KeyPays}
-use Rattle.sasi_sources.specs.Maps.{IsMap, maps_in}
+use Rattle.sasi_sources.specs.Maps.{IsOneOf}
 
 -- ---- maps
 
-pub maps_stay : (was now : Book) (map : Option ℕ) → ((number : ℕ) → IsMap map number → IsGrown (get was number) (get now number)) → maps_in now map ≡ maps_in was map
-maps_stay was now None same = refl
-maps_stay was now (Some number) same = grown_seen (λ (m : MemtableView). m ∷ []) [] (get was number) (get now number) (same number refl)
+pub views_stay : (was now : Book) (numbers : List ℕ) → ((number : ℕ) → IsOneOf numbers number → IsGrown (get was number) (get now number)) → views_numbered now numbers ≡ views_numbered was numbers
+views_stay was now [] same = refl
+views_stay was now (n ∷ ns) same =
+    ap₂ (λ (here ms : List MemtableView). here ++ ms) (grown_seen (λ (m : MemtableView). m ∷ []) [] (get was n) (get now n) (same n (inl refl))) (views_stay was now ns (λ number is. same number (inr is)))
+
 
 -- ---- files
 
@@ -60,14 +63,14 @@ pays_stay : (types : List ColumnType) (files : List ListedFile) (key : Option De
 pays_stay types files None old new most prices same is = is
 pays_stay types files (Some key) old new most prices same is = (is.0, is.1, key_stays old new types files key is.0 is.1 same is.2, is.3)
 
-pub key_keeps : (types : List ColumnType) (files : List ListedFile) (key : Option DecoratedKey) (map : Option ℕ) (old new : Option Folder) (was now : Book) → ((name : FileName) → IsListed files name → contents_in new name ≡ contents_in old name)
-    → ((number : ℕ) → IsMap map number → IsGrown (get was number) (get now number))
-    → (Unit {0} → Unit {0}) × ((left : List Candidate) → KeyLeaves types files key old (maps_in was map) left → KeyLeaves types files key new (maps_in now map) left)
-    × ((most : ℕ) (prices : List ℕ) → KeyPays types files key old most prices → KeyPays types files key new most prices) × ((kind : ColumnType) → HasKeyType types (maps_in was map) kind → HasKeyType types (maps_in now map) kind)
-key_keeps types files key map old new was now same maps =
-    let stay = sym (maps_stay was now map maps) in (
+pub key_keeps : (types : List ColumnType) (files : List ListedFile) (key : Option DecoratedKey) (numbers : List ℕ) (old new : Option Folder) (was now : Book) → ((name : FileName) → IsListed files name → contents_in new name ≡ contents_in old name)
+    → ((number : ℕ) → IsOneOf numbers number → IsGrown (get was number) (get now number))
+    → (Unit {0} → Unit {0}) × ((left : List Candidate) → KeyLeaves types files key old (views_numbered was numbers) left → KeyLeaves types files key new (views_numbered now numbers) left)
+    × ((most : ℕ) (prices : List ℕ) → KeyPays types files key old most prices → KeyPays types files key new most prices) × ((kind : ColumnType) → HasKeyType types (views_numbered was numbers) kind → HasKeyType types (views_numbered now numbers) kind)
+key_keeps types files key numbers old new was now same maps =
+    let stay = sym (views_stay was now numbers maps) in (
       (λ ready. ready),
-      (λ left is. subst (λ (ms : List MemtableView). KeyLeaves types files key new ms left) stay (leaves_stay types files key old new (maps_in was map) left same is)),
+      (λ left is. subst (λ (ms : List MemtableView). KeyLeaves types files key new ms left) stay (leaves_stay types files key old new (views_numbered was numbers) left same is)),
       (λ most prices is. pays_stay types files key old new most prices same is),
       (λ kind is. subst (λ (ms : List MemtableView). HasKeyType types ms kind) stay is),
     )

@@ -1,4 +1,4 @@
--- What is known of a scan stays while its files are unchanged, and its map but for indexes that were added.
+-- What is known of a scan stays while its files are unchanged, and its maps but for indexes that were added.
 use Rattle.std.proofs.Common.{◌≡◌, ◌≤◌, ◌+◌, ◌-◌, ◌*◌, ℕ, List, [], ◌∷◌, Option, None, Some, IsSome, refl, sym, ap, subst, ◌∙◌, inl, inr}
 use Rattle.std.proofs.lemmas.List.Elements.{All-from_recursion}
 use Rattle.std.specs.FinMap.{get}
@@ -19,6 +19,7 @@ use Rattle.sasi_memtable.specs.MemtableView.{MemtableView}
 use Rattle.sasi_merge.specs.Merging.{Head}
 use Rattle.sasi_merge.specs.Streams.{Entries}
 use Rattle.sasi_scan.specs.Left.{AreLeft}
+use Rattle.sasi_scan.specs.Numbered.{views_numbered}
 use Rattle.sasi_scan.specs.Paging.{IsPaged, all_pages_left, pages_in, pages_left, table_reads}
 use Rattle.sasi_scan.specs.Scanning.{IsScanOf, ScanView}
 use Rattle.sasi_scan.specs.Sources.{CanStep, IsListedFile, IsListedSource, IsOpenIn}
@@ -27,9 +28,9 @@ use Rattle.sasi_scan.specs.declared.source.Source.TheVariants.{File, Map}
 use Rattle.sasi_recheck.specs.Growth.{IsGrown}
 use Rattle.sasi_recheck.specs.Sources.{Candidate, first_price}
 use Rattle.sasi_sources.specs.KeyCandidates.{HasKeyType, IsListed}
-use Rattle.sasi_sources.specs.Maps.{IsMap, maps_in}
+use Rattle.sasi_sources.specs.Maps.{IsOneOf}
 use Rattle.sasi_sources.specs.ScanCandidates.{ScanLeaves, ScanPays, ScanReady}
-use Rattle.sasi_sources.specs.inside.KeyLaws.{contents_stay, maps_stay}
+use Rattle.sasi_sources.specs.inside.KeyLaws.{contents_stay, views_stay}
 
 -- a listed file is one that may be read
 each_listed : (all some : List ListedFile) → ((name : FileName) → IsListed some name → IsListed all name) → AllByRecursion (λ (file : ListedFile). IsListed all (data_name file.number)) some
@@ -150,14 +151,14 @@ module _ (old new : Option Folder) (told : IsSome new → IsSome old) (files : L
         record { paged = all_paged p scan.sources of.listed may.paged; within = subst (λ (n : ℕ). n ≤ most) (sym (pages_stay scan.sources of.listed)) may.within },
       )
 
-pub scan_keeps : (types : List ColumnType) (files : List ListedFile) (scan : Option ScanView) (map : Option ℕ) (old new : Option Folder) (was now : Book) → (IsSome new → IsSome old) → ((name : FileName) → IsListed files name → contents_in new name ≡ contents_in old name)
-    → ((number : ℕ) → IsMap map number → IsGrown (get was number) (get now number))
-    → (ScanReady types files scan old (maps_in was map) → ScanReady types files scan new (maps_in now map)) × ((left : List Candidate) → ScanLeaves types files scan old (maps_in was map) left → ScanLeaves types files scan new (maps_in now map) left)
-    × ((most : ℕ) (prices : List ℕ) → ScanPays types files scan old (maps_in was map) most prices → ScanPays types files scan new (maps_in now map) most prices)
-    × ((kind : ColumnType) → HasKeyType types (maps_in was map) kind → HasKeyType types (maps_in now map) kind)
-scan_keeps types files scan map old new was now told same maps =
-    let stay = sym (maps_stay was now map maps) in
-    let before = maps_in was map in (
+pub scan_keeps : (types : List ColumnType) (files : List ListedFile) (scan : Option ScanView) (numbers : List ℕ) (old new : Option Folder) (was now : Book) → (IsSome new → IsSome old) → ((name : FileName) → IsListed files name → contents_in new name ≡ contents_in old name)
+    → ((number : ℕ) → IsOneOf numbers number → IsGrown (get was number) (get now number))
+    → (ScanReady types files scan old (views_numbered was numbers) → ScanReady types files scan new (views_numbered now numbers)) × ((left : List Candidate) → ScanLeaves types files scan old (views_numbered was numbers) left → ScanLeaves types files scan new (views_numbered now numbers) left)
+    × ((most : ℕ) (prices : List ℕ) → ScanPays types files scan old (views_numbered was numbers) most prices → ScanPays types files scan new (views_numbered now numbers) most prices)
+    × ((kind : ColumnType) → HasKeyType types (views_numbered was numbers) kind → HasKeyType types (views_numbered now numbers) kind)
+scan_keeps types files scan numbers old new was now told same maps =
+    let stay = sym (views_stay was now numbers maps) in
+    let before = views_numbered was numbers in (
       (λ ready. subst (λ (ms : List MemtableView). ScanReady types files scan new ms) stay (ready_stays old new told files types same scan before ready)),
       (λ left is. subst (λ (ms : List MemtableView). ScanLeaves types files scan new ms left) stay (leaves_stay old new told files types same scan before left is)),
       (λ most prices is. subst (λ (ms : List MemtableView). ScanPays types files scan new ms most prices) stay (pays_stay old new told files types same scan before most prices is)),

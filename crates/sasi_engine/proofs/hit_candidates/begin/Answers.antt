@@ -7,7 +7,8 @@ use Rattle.sasi_lookup.specs.Lookups.{LookupView, Opens, Shows}
 use Rattle.sasi_engine.specs.Asked.{asked_of}
 use Rattle.sasi_engine.specs.HitCandidates.{looked_groups}
 use Rattle.sasi_engine.specs.HitLists.{hit_lists}
-use Rattle.sasi_engine.specs.Plans.{IsOneOf, of_hits}
+use Rattle.sasi_engine.specs.Plans.{of_hits}
+use Rattle.sasi_sources.specs.Maps.{IsOneOf}
 use Rattle.sasi_engine.proofs.NewLaws.{new_left, new_looks, new_prints, new_told, own_small, planned_as, unopened_open, unopened_show}
 use Rattle.sasi_engine.proofs.OwingLaws.{owes_nothing}
 use Rattle.sasi_engine.proofs.hit_candidates.begin.Goals as goal

@@ -10,7 +10,8 @@ use Rattle.sasi_scan.specs.Finding.{file_maps, found_in}
 use Rattle.sasi_scan.specs.Parts.{IsMergeOfParts}
 use Rattle.sasi_recheck.specs.Sources.{Candidate}
 use Rattle.sasi_sources.proofs.Printables.{parts_printable}
-use Rattle.sasi_engine.specs.TokenHits.{contents_in_files, maps_numbered, views_numbered}
+use Rattle.sasi_engine.specs.TokenHits.{contents_in_files, maps_numbered}
+use Rattle.sasi_scan.specs.Numbered.{views_numbered}
 use Rattle.sasi_engine.specs.inside.KeyedSteps.{IsKeyFound, IsKeyTurned, KeyLeaves}
 use Rattle.sasi_engine.proofs.KeyedFinding.{gives_found, not_none}
 use Rattle.sasi_engine.proofs.SourceCalls.{can_lookup, lookup_faults, read_lookup}

@@ -1,11 +1,11 @@
-use Rattle.std.proofs.Common.{ap, refl, sym}
+use Rattle.std.proofs.Common.{ap, sym}
 use Rattle.std.proofs.lemmas.Result.{err_from_is_err_and}
 use Rattle.sasi_types.specs.declared.decorated_key.DecoratedKey.{DecoratedKey}
 use Rattle.sasi_model.specs.State.{decorated}
 use Rattle.sasi_ranges.proofs.Calling.{faults_handed, faults_memory, faults_ok}
 use Rattle.sasi_scan.specs.Finding.{file_maps}
 use Rattle.sasi_engine.specs.TokenHits.{maps_numbered}
-use Rattle.sasi_engine.specs.TokenHits.{views_numbered}
+use Rattle.sasi_scan.specs.Numbered.{views_numbered}
 use Rattle.sasi_engine.proofs.PartFinding.{found_of_parts, parts_found}
 use Rattle.sasi_engine.proofs.part_finds.find_in_parts.Goals as goal
 

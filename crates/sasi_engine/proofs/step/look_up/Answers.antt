@@ -8,7 +8,7 @@ use Rattle.sasi_scan.specs.Parts.{IsMergeOfParts}
 use Rattle.sasi_sources.proofs.Printables.{parts_printable}
 use Rattle.sasi_engine.specs.TokenHits.{maps_numbered}
 use Rattle.sasi_engine.specs.inside.Steps.{step_of}
-use Rattle.sasi_engine.specs.TokenHits.{views_numbered}
+use Rattle.sasi_scan.specs.Numbered.{views_numbered}
 use Rattle.sasi_engine.proofs.step.look_up.Goals as goal
 
 pub returns-in_err-found-clause-faults : goal.returns-in_err-found-clause-faults

@@ -1,10 +1,11 @@
-use Rattle.std.proofs.Common.{List, Option, Some, ℕ, inr, subst, sym}
+use Rattle.std.proofs.Common.{List, Some, ℕ, inr, subst, sym}
 use Rattle.sasi_manifest.specs.declared.files.ListedFile.{ListedFile}
+use Rattle.sasi_scan.specs.Numbered.{views_numbered}
 use Rattle.sasi_scan.specs.Parts.{ShowsListed}
 use Rattle.sasi_recheck.specs.Sources.{Candidate}
 use Rattle.sasi_sources.specs.KeyCandidates.{HasKeyType, IsListed, KeyLeaves}
-use Rattle.sasi_sources.specs.Maps.{IsMap, maps_in}
-use Rattle.sasi_plan.proofs.ViewLaws.{first_typed, listed_file, mapped_one}
+use Rattle.sasi_sources.specs.Maps.{IsOneOf}
+use Rattle.sasi_plan.proofs.ViewLaws.{listed_file}
 use Rattle.sasi_plan.proofs.BeginLaws.{look_up_leaves, look_up_pays}
 use Rattle.sasi_plan.proofs.plan_candidates.begin_look_up.Goals as goal
 
@@ -12,7 +13,7 @@ pub returns-clause-leaves : goal.returns-clause-leaves
 returns-clause-leaves c w left is made left_is =
     let r = c.new.result in
     look_up_leaves w c.args.maps.now is c.args.types c.args.parts.now made.0 c.in_ok-files.files.items c.in_ok-files.ensures c.args.key made
-    (λ (left : List Candidate). KeyLeaves r.types r.files.items r.key (Some w.folder) (maps_in c.args.maps.now r.map) left) left left_is c.first_map-map.result c.first_map-map.ensures
+    (λ (left : List Candidate). KeyLeaves r.types r.files.items r.key (Some w.folder) (views_numbered c.args.maps.now r.maps.items) left) left left_is c.in_ok-numbers.numbers.items c.in_ok-numbers.ensures
     (λ contents have. c.new.ensures.leaves (Some w.folder) c.args.maps.now w.partitioner contents have)
 
 pub returns-clause-pays : goal.returns-clause-pays
@@ -26,7 +27,7 @@ returns-clause-opens c name opens =
 
 pub returns-clause-uses : goal.returns-clause-uses
 returns-clause-uses c number uses =
-    mapped_one c.args.parts.now number (subst (λ (o : Option ℕ). IsMap o number) c.first_map-map.ensures (c.new.ensures.uses number uses))
+    subst (λ (ns : List ℕ). IsOneOf ns number) c.in_ok-numbers.ensures (c.new.ensures.uses number uses)
 
 pub returns-clause-shows : goal.returns-clause-shows
 returns-clause-shows c files damage shows =
@@ -34,4 +35,4 @@ returns-clause-shows c files damage shows =
 
 pub returns-clause-prints : goal.returns-clause-prints
 returns-clause-prints c files book kind has =
-    c.new.ensures.prints files book kind (subst (λ (o : Option ℕ). HasKeyType c.args.types (maps_in book o) kind) (sym c.first_map-map.ensures) (first_typed c.args.types book c.args.parts.now kind has))
+    c.new.ensures.prints files book kind (subst (λ (ns : List ℕ). HasKeyType c.args.types (views_numbered book ns) kind) (sym c.in_ok-numbers.ensures) has)

@@ -1,7 +1,8 @@
 use Rattle.std.proofs.Common.{◌≡◌, true, Some, sym}
 use Rattle.sasi_sources.specs.KeyCandidates.{HasKeyType}
-use Rattle.sasi_engine.specs.Plans.{IsOneOf, is_file_of, map_numbers}
-use Rattle.sasi_engine.specs.TokenHits.{views_numbered}
+use Rattle.sasi_engine.specs.Plans.{is_file_of, map_numbers}
+use Rattle.sasi_sources.specs.Maps.{IsOneOf}
+use Rattle.sasi_scan.specs.Numbered.{views_numbered}
 use Rattle.sasi_plan.specs.declared.plan_candidates.Pending.{Pending}
 use Rattle.sasi_plan.specs.Reading.{PendingLeaves, PendingPays, PendingReady, PendingShows}
 use Rattle.sasi_plan.proofs.PendingLaws.{at_pending, if_plan, seen_view, since_begun}

@@ -8,7 +8,7 @@ use Rattle.sasi_host.specs.View.{IsThere}
 use Rattle.sasi_machine.specs.TableRows.{AreStored}
 use Rattle.sasi_memtable.specs.MemtableView.{MemtableView}
 use Rattle.sasi_engine.specs.Plans.{map_numbers}
-use Rattle.sasi_engine.specs.TokenHits.{views_numbered}
+use Rattle.sasi_scan.specs.Numbered.{views_numbered}
 use Rattle.sasi_plan.specs.contracts.plan_candidates.PlanCandidatesCandidates.TheImpl as source
 use Rattle.sasi_plan_tests.proofs.AskedPlans.{source_ready}
 use Rattle.sasi_plan_tests.proofs.MapLaws.{maps_stored, own_file}

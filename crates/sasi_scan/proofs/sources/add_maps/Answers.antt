@@ -2,9 +2,6 @@ use Rattle.std.proofs.Common.{◌<◌, length, arith}
 use Rattle.sasi_scan.proofs.Openings.{map_next_head, map_next_source, maps_end_heads, maps_end_sources}
 use Rattle.sasi_scan.proofs.sources.add_maps.Goals as goal
 
-pub head_after-requires : goal.head_after-requires
-head_after-requires c = omega (arith, c.loop-position.invariant.end, c.loop-position-test.true)
-
 pub loop-position-preserved : goal.loop-position-preserved
 loop-position-preserved c =
     let on = c.loop-position.invariant in

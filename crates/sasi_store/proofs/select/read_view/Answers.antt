@@ -15,7 +15,7 @@ use Rattle.sasi_views.specs.Kept.{IsCounted}
 use Rattle.sasi_views.proofs.BookLaws.{give_counted, kept_out, kept_view, take_counted}
 use Rattle.sasi_views.specs.Parts.{ListsOnce}
 use Rattle.sasi_engine.specs.Plans.{is_file_of, map_numbers}
-use Rattle.sasi_engine.specs.TokenHits.{views_numbered}
+use Rattle.sasi_scan.specs.Numbered.{views_numbered}
 use Rattle.sasi_plan.specs.Answers.{CountsTo, ReadsLeft, RowsLeft}
 use Rattle.sasi_plan.specs.Reading.{IsReadIn, PendingReady, PendingShows, plan_reads}
 use Rattle.sasi_plan.specs.contracts.plan_candidates.PlanCandidatesCandidates.TheImpl as source

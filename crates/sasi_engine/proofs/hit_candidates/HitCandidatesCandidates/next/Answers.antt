@@ -1,6 +1,6 @@
 use Rattle.std.proofs.Common.{List, ℕ, subst, inl, inr, ⊎_elim}
 use Rattle.sasi_lookup.proofs.Keeping.{same_shows}
-use Rattle.sasi_engine.specs.Plans.{IsOneOf}
+use Rattle.sasi_sources.specs.Maps.{IsOneOf}
 use Rattle.sasi_engine.proofs.HandLaws.{always_ok, both_ok}
 use Rattle.sasi_engine.proofs.StepLaws.{kind_still}
 use Rattle.sasi_engine.proofs.hit_candidates.HitCandidatesCandidates.next.Goals as goal

@@ -3,7 +3,7 @@ use Rattle.std.specs.Option.{IsSomeAnd}
 use Rattle.sasi_host.specs.declared.name.FileName.{FileName}
 use Rattle.sasi_types.specs.declared.decorated_key.DecoratedKey.{DecoratedKey}
 use Rattle.sasi_ranges.proofs.Calling.{streamed_as, streams_nothing}
-use Rattle.sasi_engine.specs.Plans.{IsOneOf}
+use Rattle.sasi_sources.specs.Maps.{IsOneOf}
 use Rattle.sasi_engine.specs.inside.Steps.{SourceOpens, SourceShows}
 use Rattle.sasi_engine.proofs.HandLaws.{always_ok}
 use Rattle.sasi_engine.proofs.KeyedCalls.{all_now, can_once, faults_once, given_once, had_all, had_left, had_owing, none_now, read_once, spent_once}

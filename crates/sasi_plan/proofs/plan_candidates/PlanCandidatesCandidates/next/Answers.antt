@@ -3,8 +3,9 @@ use Rattle.std.proofs.lemmas.Result.{err_from_is_err_and}
 use Rattle.sasi_views.specs.declared.part.Part as view
 use Rattle.sasi_ranges.proofs.Calling.{on_err, on_ok, streamed_as, streams_nothing}
 use Rattle.sasi_sources.specs.KeyCandidates.{HasKeyType}
-use Rattle.sasi_engine.specs.Plans.{IsOneOf, is_file_of, map_numbers}
-use Rattle.sasi_engine.specs.TokenHits.{views_numbered}
+use Rattle.sasi_engine.specs.Plans.{is_file_of, map_numbers}
+use Rattle.sasi_sources.specs.Maps.{IsOneOf}
+use Rattle.sasi_scan.specs.Numbered.{views_numbered}
 use Rattle.sasi_plan.specs.declared.plan_candidates.Pending.{Pending}
 use Rattle.sasi_plan.specs.Reading.{PendingLeaves, PendingPays, PendingReady, PendingShows}
 use Rattle.sasi_plan.proofs.PendingLaws.{as_begun, if_begun, if_pending, over_parts}
