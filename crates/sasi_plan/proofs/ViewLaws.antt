@@ -136,15 +136,12 @@ views_are : (folder : Folder) (p : Partitioner) (t : TableParts) (book : Book) (
 views_are folder p t book [] parts are = refl
 views_are folder p t book (v ∷ listed) [] are = absurd are
 views_are folder p t book (view_part.File number indexes ∷ listed) (q ∷ parts) are = views_are folder p t book listed parts are.1
-views_are folder p t book (view_part.Map number ∷ listed) (q ∷ parts) are = by (map_.get book number) are.0
+views_are folder p t book (view_part.Map number ∷ listed) (q ∷ parts) are = by (map_.get book number) are.0 (views_are folder p t book listed parts are.1)
   where
-    rest : map (λ (m : MemtableView). m.partitions) (views_numbered book (map_numbers listed)) ≡ maps_numbered book (map_numbers listed)
-    rest = views_are folder p t book listed parts are.1
-
-    by : (o : Option MapPart) → IsMapIn t o q
+    by : (o : Option MapPart) → IsMapIn t o q → map (λ (m : MemtableView). m.partitions) (views_numbered book (map_numbers listed)) ≡ maps_numbered book (map_numbers listed)
         → map (λ (m : MemtableView). m.partitions) (option_map_or (λ (part : MapPart). part.map ∷ []) o [] ++ views_numbered book (map_numbers listed)) ≡ option_map_or (λ (m : MapPart). m.map.partitions) o map_.empty ∷ maps_numbered book (map_numbers listed)
-    by None is = absurd is
-    by (Some m) is = ap (λ (ms : List Partitions). m.map.partitions ∷ ms) rest
+    by None is rest = absurd is
+    by (Some m) is rest = ap (λ (ms : List Partitions). m.map.partitions ∷ ms) rest
 
 module _ (w : PlanWorld) (book : Book) (is : IsViewOf w book) where
   -- **The listed files have the contents of its parts,**
