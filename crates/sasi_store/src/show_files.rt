@@ -10,7 +10,7 @@ ghost use Rattle.sasi_store.specs.Worlds.{current_texts, file_texts};
 
 use crate::parts::Parts;
 use sasi_host::FileName;
-use sasi_layout::listed_names;
+use sasi_listing::listed_names;
 use sasi_machine::Reply;
 use sasi_print::{FileState, file_count, file_line};
 use sasi_views::{Component, ViewBook};
