@@ -51,7 +51,7 @@ maps_there book first second third one two three in_first in_second in_third num
 
 parts_apart : IsDistinct same (component.File (data_name 7) ∷ component.Map 1 ∷ component.Map 2 ∷ component.Map 3 ∷ [])
 unfolding IsDistinct
-parts_apart = ((refl, refl, refl, tt), (refl, refl, tt), (refl, tt), tt, tt)
+parts_apart = ((refl, (refl, (refl, tt))), ((refl, (refl, tt)), ((refl, tt), (tt, tt))))
 
 pub parts_once : ListsOnce (File 7 [] ∷ Map 1 ∷ Map 2 ∷ Map 3 ∷ [])
 parts_once = listed_once (component.File (data_name 7) ∷ component.Map 1 ∷ component.Map 2 ∷ component.Map 3 ∷ []) parts_apart
