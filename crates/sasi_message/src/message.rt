@@ -1,6 +1,6 @@
 // The line that the program prints of a status.
-use sasi_names::NameText;
 use sasi_host::{Damage, Seen};
+use sasi_names::NameText;
 use sasi_run::{NumberKind, Status};
 use sasi_types::{Class, Partitioner};
 use std::fmt;

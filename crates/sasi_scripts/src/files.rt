@@ -1,7 +1,7 @@
 // The files of a host in memory: put, cut, changed and printed.
 use crate::runs::{run_script, two_numbers};
-use sasi_names::{NameText, parse_name};
 use sasi_host::{BytePick, FileName, Host, MemHost, NamePick, Pick};
+use sasi_names::{NameText, parse_name};
 use std::alloc::{AllocError, Global};
 use std::io;
 

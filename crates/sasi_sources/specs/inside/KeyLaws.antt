@@ -27,7 +27,6 @@ views_stay was now [] same = refl
 views_stay was now (n ∷ ns) same =
     ap₂ (λ (here ms : List MemtableView). here ++ ms) (grown_seen (λ (m : MemtableView). m ∷ []) [] (get was n) (get now n) (same n (inl refl))) (views_stay was now ns (λ number is. same number (inr is)))
 
-
 -- ---- files
 
 content_stays : (old new : Option Folder) (p : Partitioner) (types : List ColumnType) (file : ListedFile) (content : Content) → contents_in new (data_name file.number) ≡ contents_in old (data_name file.number)
