@@ -7,7 +7,7 @@ use Rattle.sasi_manifest.specs.declared.files.ListedFile.{ListedFile}
 use Rattle.sasi_model.specs.Lines.{files_lines, line}
 use Rattle.sasi_model.specs.State.{Definition}
 use Rattle.sasi_print.specs.Files.{file_count_line}
-use Rattle.sasi_layout.specs.FileNames.{file_names, names_listed}
+use Rattle.sasi_layout.specs.FileNames.{names_listed}
 use Rattle.sasi_layout.specs.Layout.{File, TableParts}
 use Rattle.sasi_machine_layout.specs.declared.contents.Contents.{Contents}
 use Rattle.sasi_machine_layout.specs.declared.contents.FileContents.{FileContents}
