@@ -15,7 +15,9 @@ fn reads_of(rt: &impl Abort, alloc: Global, script: &str, want: &str, host: &mut
     let before = host.reads();
     let (_status, emitted) = run_script(rt, alloc, script, host);
     assert!(rt; emitted.as_slice() == want.as_bytes(), "not {want}");
-    host.reads() - before
+    let after = host.reads();
+    assert!(rt; before <= after);
+    after - before
 }
 
 // What a run reads without a statement, it reads to open the folder.
