@@ -293,6 +293,18 @@ TooManyColumns = (24, codes "TooMany columns 64")
 abbrev pub TooManyRelations : Refusal
 TooManyRelations = (24, codes "TooMany relations 32")
 
+abbrev pub TooManyCursors : Refusal
+TooManyCursors = (24, codes "TooMany cursors 64")
+
+abbrev pub CursorExists : List ℕ → Refusal
+CursorExists cursor = (22, codes "CursorExists " ++ cursor)
+
+abbrev pub NoCursor : List ℕ → Refusal
+NoCursor cursor = (23, codes "NoCursor " ++ cursor)
+
+abbrev pub FetchRange : Refusal
+FetchRange = (9, codes "NumberRange FETCH")
+
 abbrev pub ScriptEnds : Refusal
 ScriptEnds = (25, codes "Unfinished")
 

@@ -18,7 +18,7 @@ use Rattle.sasi_types.specs.declared.relation.Relation.{Relation}
 use Rattle.sasi_types.specs.declared.statement.Statement.{Statement}
 use Rattle.sasi_types.specs.declared.statement.Select.{Select}
 use Rattle.sasi_types.specs.declared.class.Class.{Class}
-use Rattle.sasi_types.specs.declared.statement.Statement.TheVariants.{CreateTable, CreateIndex, Insert, Update, Delete, Query, Flush, Trace, ShowFiles}
+use Rattle.sasi_types.specs.declared.statement.Statement.TheVariants.{CreateTable, CreateIndex, Insert, Update, Delete, Query, Flush, Trace, ShowFiles, OpenCursor, Fetch, CloseCursor}
 use Rattle.sasi_model.specs.Pieces.{Piece, Whole, TooLong, Unfinished}
 use Rattle.sasi_model.specs.Tokens.{same}
 use Rattle.sasi_model.specs.Parsers.{Parsed, Parses, FailsAt, Parser, grammar_parser}
@@ -50,6 +50,9 @@ is_built (Query select) = true
 is_built (Flush table) = true
 is_built (Trace on) = true
 is_built ShowFiles = true
+is_built (OpenCursor cursor select) = true
+is_built (Fetch cursor count) = true
+is_built (CloseCursor cursor) = true
 is_built statement = false
 
 -- A statement that isn't built is refused, and so is a text without a statement.
@@ -275,12 +278,31 @@ needs_filtering d select = (not select.filtering && (nat_le 2 (length select.rel
 abbrev pub too_many_relations : Select → RefusalRule
 too_many_relations select = (nat_lt 32 (length select.relations), (24, codes "TooMany relations 32"))
 
--- the columns that it names stand before its WHERE, and LIMIT after it
-abbrev pub select_rules : Select → Option Definition → List RefusalRule
-select_rules select None = (true, (4, codes "NoTable " ++ select.table)) ∷ []
-select_rules select (Some d) =
+-- the rules before that of the number of relations: the columns that it names stand before its WHERE, and LIMIT after it
+abbrev pub answer_rules : Select → Option Definition → List RefusalRule
+answer_rules select None = (true, (4, codes "NoTable " ++ select.table)) ∷ []
+answer_rules select (Some d) =
     map (no_column d) (unwrap_or select.columns []) ++ (relation_rules operand_rules d select.relations
-    ++ limit_range select.limit ∷ (relation_rules search_rules d select.relations ++ needs_filtering d select ∷ too_many_relations select ∷ []))
+    ++ limit_range select.limit ∷ (relation_rules search_rules d select.relations ++ needs_filtering d select ∷ []))
+
+abbrev pub select_rules : Select → Option Definition → List RefusalRule
+select_rules select d = answer_rules select d ++ too_many_relations select ∷ []
+
+-- ---- cursors
+
+-- a FETCH of rows by their number
+abbrev pub fetch_range : Number → RefusalRule
+fetch_range count = (not (is_count count), (9, codes "NumberRange FETCH"))
+
+-- Of a statement on a cursor these rules come after the others. They depend on the names of the open cursors. An OPEN that they let through
+-- isn't built yet.
+abbrev pub cursor_rules : List (List ℕ) → Statement → List RefusalRule
+cursor_rules names (OpenCursor cursor select) =
+    (list_any (same cursor) names, (22, codes "CursorExists " ++ cursor)) ∷ (nat_le 64 (length names), (24, codes "TooMany cursors 64")) ∷ too_many_relations select
+    ∷ (true, (90, codes "NotBuilt")) ∷ []
+cursor_rules names (Fetch cursor count) = (not (list_any (same cursor) names), (23, codes "NoCursor " ++ cursor)) ∷ []
+cursor_rules names (CloseCursor cursor) = (not (list_any (same cursor) names), (23, codes "NoCursor " ++ cursor)) ∷ []
+cursor_rules names statement = []
 
 -- ---- CREATE CUSTOM INDEX
 
@@ -321,7 +343,7 @@ index_rules tables name table column class options (Some d) =
 
 -- ---- the rules of a statement
 
--- by what is known; none for a statement that isn't built
+-- by what is known; none for a statement that isn't built. Those of cursors are no part of them.
 abbrev pub rules : Known → Statement → List RefusalRule
 rules known (CreateTable table columns keys) = create_rules known.tables table columns keys
 rules known (CreateIndex name table column class options stepped) = index_rules known.tables name table column class options (definition_of table known.tables)
@@ -330,6 +352,8 @@ rules known (Update table time sets key value) = update_rules known.max_timestam
 rules known (Delete table columns time key value) = delete_rules known.max_timestamp table columns key value time (definition_of table known.tables)
 rules known (Query select) = select_rules select (definition_of select.table known.tables)
 rules known (Flush table) = flush_rules table (definition_of table known.tables)
+rules known (OpenCursor cursor select) = answer_rules select (definition_of select.table known.tables)
+rules known (Fetch cursor count) = fetch_range count ∷ []
 rules known statement = []
 
 -- that of the first rule that applies

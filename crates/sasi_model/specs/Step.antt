@@ -79,9 +79,17 @@ selected_columns d names = option_map_or (filter_map (number_of_column d)) names
 abbrev pub values_numbered : Definition → List ℕ → DecoratedKey × Partition → List (Option Value)
 values_numbered d numbers entry = map (value_numbered d entry.0 entry.1) numbers
 
--- the lines of a SELECT over the partitions of a table, in their order
+-- the rows of a SELECT over the partitions of a table, in their order
+abbrev pub select_rows : Definition → Select → List (DecoratedKey × Partition) → List (List (Option Value))
+select_rows d select entries = map (values_numbered d (selected_columns d select.columns)) (rows_up_to (row_limit select.limit) (filter_of d select.relations) entries)
+
+-- and their lines
 abbrev pub select_lines : Definition → Select → List (DecoratedKey × Partition) → List ℕ
-select_lines d select entries = rows_lines (map (values_numbered d (selected_columns d select.columns)) (rows_up_to (row_limit select.limit) (filter_of d select.relations) entries))
+select_lines d select entries = rows_lines (select_rows d select entries)
+
+-- the rows of a SELECT, none where there is no such table
+abbrev pub rows_selected : State → Select → List (List (Option Value))
+rows_selected s select = option_map_or (λ t. select_rows t.definition select (map_.entries t.partitions)) (table_of select.table s.tables) []
 
 -- ---- one statement
 
@@ -163,11 +171,6 @@ abbrev pub replies_by : Parser → State → List Piece → List ℕ
 replies_by parser s [] = []
 replies_by parser s (p ∷ ps) = (step_by parser s p).reply ++ replies_by parser (step_by parser s p).state ps
 
--- how many of them are refused
-abbrev pub refusals_by : Parser → State → List Piece → ℕ
-refusals_by parser s [] = 0
-refusals_by parser s (p ∷ ps) = (if is_some (step_by parser s p).refused then 1 else 0) + refusals_by parser (step_by parser s p).state ps
-
 -- ---- the same by the parser of the grammar
 
 abbrev pub step : State → Piece → StepResult
@@ -178,6 +181,3 @@ state_after = state_by grammar_parser
 
 abbrev pub replies : State → List Piece → List ℕ
 replies = replies_by grammar_parser
-
-abbrev pub refusals : State → List Piece → ℕ
-refusals = refusals_by grammar_parser

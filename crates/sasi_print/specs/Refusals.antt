@@ -10,7 +10,7 @@ refusal_names =
     (1, codes "Syntax") ∷ (2, codes "StatementTooLong") ∷ (3, codes "NotUtf8") ∷ (4, codes "NoTable") ∷ (5, codes "TableExists") ∷ (6, codes "NoColumn")
     ∷ (7, codes "ColumnRepeated") ∷ (8, codes "WrongType") ∷ (9, codes "NumberRange") ∷ (10, codes "KeyMissing") ∷ (11, codes "KeyEmpty")
     ∷ (12, codes "ValueTooLong") ∷ (13, codes "IndexExists") ∷ (15, codes "BadOption") ∷ (16, codes "ModeType") ∷ (17, codes "OperatorUnsupported")
-    ∷ (18, codes "LikeEmpty") ∷ (19, codes "NeedsFiltering") ∷ (20, codes "TimestampRange") ∷ (21, codes "ClockSpent") ∷ (24, codes "TooMany")
+    ∷ (18, codes "LikeEmpty") ∷ (19, codes "NeedsFiltering") ∷ (20, codes "TimestampRange") ∷ (21, codes "ClockSpent") ∷ (22, codes "CursorExists") ∷ (23, codes "NoCursor") ∷ (24, codes "TooMany")
     ∷ (25, codes "Unfinished") ∷ (90, codes "NotBuilt") ∷ []
 
 -- the name of the refusal with that number, where one is built

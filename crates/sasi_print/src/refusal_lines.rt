@@ -93,6 +93,8 @@ fn name_of(number: u32) -> &'static [u8]
         19 => b"NeedsFiltering",
         20 => b"TimestampRange",
         21 => b"ClockSpent",
+        22 => b"CursorExists",
+        23 => b"NoCursor",
         24 => b"TooMany",
         25 => b"Unfinished",
         90 => b"NotBuilt",
