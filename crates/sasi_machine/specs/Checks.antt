@@ -1,12 +1,12 @@
 -- The rules of writes and of SELECTs, by the checks that try them. In those of writes the time comes last.
-use Rattle.std.specs.Prelude.{◌≡◌, ℕ, ◌<◌, ◌≤◌, Bool, not, ◌&&◌, ◌||◌, nat_le, nat_lt, List, [], ◌∷◌, ◌++◌, length, Option, Some}
+use Rattle.std.specs.Prelude.{◌≡◌, ℕ, ◌<◌, ◌≤◌, Bool, not, ◌&&◌, ◌||◌, nat_le, List, [], ◌∷◌, ◌++◌, length, Option, Some}
 use Rattle.std.specs.List.{list_any}
 use Rattle.sasi_types.specs.declared.literal.Literal.{Literal}
 use Rattle.sasi_types.specs.declared.literal.Number.{Number}
 use Rattle.sasi_types.specs.declared.relation.Relation.{Relation}
 use Rattle.sasi_model.specs.State.{Definition}
 use Rattle.sasi_model.specs.Refusals.{RefusalRule, each, is_column, is_filtered, is_key, key_empty, limit_range, number_range, operand_rules, relation_rules, search_rules, time_rules, value_too_long, wrong_type, wrong_where}
-use Rattle.sasi_model.specs.Abbreviations.{KeyMissing, NeedsFiltering, TIME_LIMIT, TooManyRelations, gives_key, key_name}
+use Rattle.sasi_model.specs.Abbreviations.{KeyMissing, NeedsFiltering, TIME_LIMIT, gives_key, key_name}
 use Rattle.sasi_model.specs.Step.{timestamp}
 use Rattle.sasi_machine.specs.declared.relation.KeyRelation.{KeyRelation}
 
@@ -46,13 +46,12 @@ kind_rules d max_timestamp sets relation time = each (wrong_type d) sets ++ wron
 
 -- ---- SELECT
 
--- what the number of relations and their columns need
-abbrev pub count_rules : Definition → Bool → List Relation → List RefusalRule
-count_rules d filtering relations =
-    (not filtering && (nat_le 2 (length relations) || list_any (is_filtered d) relations), NeedsFiltering) ∷ (nat_lt 32 (length relations), TooManyRelations) ∷ []
+-- what several relations and those on other columns need
+abbrev pub filtering_rules : Definition → Bool → List Relation → List RefusalRule
+filtering_rules d filtering relations = (not filtering && (nat_le 2 (length relations) || list_any (is_filtered d) relations), NeedsFiltering) ∷ []
 
 abbrev pub after_limit_rules : Definition → Bool → List Relation → List RefusalRule
-after_limit_rules d filtering relations = relation_rules search_rules d relations ++ count_rules d filtering relations
+after_limit_rules d filtering relations = relation_rules search_rules d relations ++ filtering_rules d filtering relations
 
 abbrev pub after_operands_rules : Definition → Option Number → Bool → List Relation → List RefusalRule
 after_operands_rules d limit filtering relations = limit_range limit ∷ after_limit_rules d filtering relations

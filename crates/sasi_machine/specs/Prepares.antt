@@ -5,7 +5,8 @@ use Rattle.std.specs.Option.{option_map_or}
 use Rattle.sasi_types.specs.declared.column.ColumnType.{ColumnType}
 use Rattle.sasi_types.specs.declared.statement.Select.{Select}
 use Rattle.sasi_types.specs.declared.statement.Statement.{Statement}
-use Rattle.sasi_types.specs.declared.statement.Statement.TheVariants.{CreateTable, CreateIndex, Flush, Query, ShowFiles, Trace}
+use Rattle.sasi_types.specs.declared.value.Value.{Value}
+use Rattle.sasi_types.specs.declared.statement.Statement.TheVariants.{CreateTable, CreateIndex, OpenCursor, Fetch, CloseCursor, Flush, Query, ShowFiles, Trace}
 use Rattle.sasi_cells.specs.declared.mutation.Mutation.{Mutation}
 use Rattle.sasi_cells.specs.Mutations.{state_with_mutation}
 use Rattle.sasi_schema.specs.Defined.{definition}
@@ -16,22 +17,25 @@ use Rattle.sasi_schema.specs.declared.index.NewIndex.{NewIndex}
 use Rattle.sasi_schema.specs.declared.table.Table.{Table}
 use Rattle.sasi_model.specs.Pieces.{Piece}
 use Rattle.sasi_model.specs.State as model
-use Rattle.sasi_model.specs.State.{State, definition_of}
+use Rattle.sasi_model.specs.State.{Definition, State, definition_of}
 use Rattle.sasi_model.specs.Asked as ask
 use Rattle.sasi_model.specs.Asked.{Asked, parsed_asks}
-use Rattle.sasi_model.specs.Abbreviations.{definitions, new_definition}
+use Rattle.sasi_model.specs.Abbreviations.{definitions, first_refusal, new_definition}
 use Rattle.sasi_model.specs.Changes.{state_with_index, with_new_table}
-use Rattle.sasi_model.specs.Refusals.{Known, Nothing, ParsedPiece, Says, is_built, known_of, read, refusal}
-use Rattle.sasi_model.specs.Step.{answer_of, select_lines, step}
+use Rattle.sasi_model.specs.Refusals.{Known, Nothing, answer_rules, ParsedPiece, Says, is_built, known_of, read, refusal}
+use Rattle.sasi_model.specs.Sessions.{fetch_count}
+use Rattle.sasi_model.specs.Step.{answer_of, rows_selected, select_lines, select_rows, step}
 use Rattle.sasi_model.specs.Stored.{IsBodyOf, column_types}
-use Rattle.sasi_model.specs.WellFormed.{IsWellFormed}
+use Rattle.sasi_model.specs.WellFormed.{IsWellFormed, IsWellFormedSelect}
 use Rattle.sasi_machine.specs.Operands.{CanSelect}
 use Rattle.sasi_machine.specs.Outcome.{outcome_of}
 use Rattle.sasi_machine.specs.StatementSteps.{StatementStepsTo}
 use Rattle.sasi_machine.specs.Writes.{IsWrite, IsWriting}
 use Rattle.sasi_machine.specs.declared.outcome.Outcome.{Outcome}
 use Rattle.sasi_machine.specs.declared.prepared.Prepared.{Prepared}
-use Rattle.sasi_machine.specs.declared.prepared.Prepared.TheVariants.{Answered, Create, Define, Write as Writes, Flush as Flushes, Select as Selects, Trace as Traces, Files as ListsFiles}
+use Rattle.sasi_machine.specs.declared.prepared.Prepared.TheVariants.{Answered, Create, Define, Write as Writes, Flush as Flushes, Select as Selects, Trace as Traces, Files as ListsFiles, Open as Opens, Fetch as Fetches, Close as Closes}
+use Rattle.sasi_machine.specs.declared.prepared.FetchAsked.{FetchAsked}
+use Rattle.sasi_machine.specs.declared.prepared.OpenAsked.{OpenAsked}
 use Rattle.sasi_machine.specs.declared.prepared.Selection.{Selection}
 
 -- what is known of a state with this schema and this largest timestamp
@@ -123,6 +127,41 @@ abbrev pub AsksFiles : State → Statement → Type 0
 AsksFiles s ShowFiles = refusal s ShowFiles ≡ None
 AsksFiles s statement = ⊥
 
+-- ---- cursors, but for the rules of cursors
+
+-- no rule refuses the SELECT on a table of this definition, but perhaps that of the number of relations
+pub record CanAnswer (d : Definition) (select : Select) : Type 0 where
+  pub written : IsWellFormedSelect select
+  pub taken : first_refusal (answer_rules select (Some d)) ≡ None
+
+-- the rows of the SELECT, over the table with its number
+abbrev pub rows_asked : State → Selection → List (List (Option Value))
+rows_asked s rows = option_map_or (λ t. select_rows t.definition rows.select (map_.entries t.partitions)) (slice_get s.tables (rows.table - 1)) []
+
+-- the OPEN isn't refused, and is this one; its table is there
+pub record OpensFrom (s : State) (cursor : List ℕ) (select : Select) (asked : OpenAsked) : Type 0 where
+  pub taken : refusal s (OpenCursor cursor select) ≡ None
+  pub cursor_is : asked.cursor ≡ cursor
+  pub select_is : asked.rows.select ≡ select
+  pub rows_are : rows_selected s select ≡ rows_asked s asked.rows
+  pub some : 0 < asked.rows.table
+  pub table : model.Table
+  pub there : slice_get s.tables (asked.rows.table - 1) ≡ Some table
+  pub named : number_of_table select.table (definitions s.tables) ≡ Some asked.rows.table
+  pub can : CanAnswer table.definition select
+
+abbrev pub OpensCursor : State → Statement → OpenAsked → Type 0
+OpensCursor s (OpenCursor cursor select) asked = OpensFrom s cursor select asked
+OpensCursor s statement asked = ⊥
+
+abbrev pub FetchesRows : State → Statement → FetchAsked → Type 0
+FetchesRows s (Fetch cursor count) asked = (refusal s (Fetch cursor count) ≡ None) × (asked.cursor ≡ cursor) × (asked.count ≡ fetch_count count)
+FetchesRows s statement asked = ⊥
+
+abbrev pub ClosesCursor : State → Statement → List ℕ → Type 0
+ClosesCursor s (CloseCursor cursor) name = (refusal s (CloseCursor cursor) ≡ None) × (name ≡ cursor)
+ClosesCursor s statement name = ⊥
+
 -- what a statement prepares, with its reply appended; that of a SELECT is still to come, and so are the lines of files
 abbrev pub StatementPrepares : State → Statement → List ℕ → List ℕ → Prepared → Type 0
 StatementPrepares s statement reply_old reply_new (Answered outcome) = StatementStepsTo s statement s reply_old reply_new outcome × IsSome (refusal s statement)
@@ -133,6 +172,9 @@ StatementPrepares s statement reply_old reply_new (Flushes table) = StatementSte
 StatementPrepares s statement reply_old reply_new (Selects rows) = (reply_new ≡ reply_old) × SelectsRows s statement rows
 StatementPrepares s statement reply_old reply_new (Traces on) = StatementStepsTo s statement s reply_old reply_new (outcome_of None) × TurnsTrace s statement on
 StatementPrepares s statement reply_old reply_new ListsFiles = StatementStepsTo s statement s reply_old reply_new (outcome_of None) × AsksFiles s statement
+StatementPrepares s statement reply_old reply_new (Opens asked) = (reply_new ≡ reply_old) × OpensCursor s statement asked
+StatementPrepares s statement reply_old reply_new (Fetches asked) = (reply_new ≡ reply_old) × FetchesRows s statement asked
+StatementPrepares s statement reply_old reply_new (Closes cursor) = (reply_new ≡ reply_old) × ClosesCursor s statement cursor
 
 -- what is asked of the tables
 abbrev pub asked_by : Prepared → Asked
@@ -144,6 +186,9 @@ asked_by (Flushes table) = ask.Flushes table
 asked_by (Selects rows) = ask.NoChange
 asked_by (Traces on) = ask.NoChange
 asked_by ListsFiles = ask.NoChange
+asked_by (Opens asked) = ask.NoChange
+asked_by (Fetches asked) = ask.NoChange
+asked_by (Closes cursor) = ask.NoChange
 
 -- what a statement prepares, by what is known of the state
 pub record IsPrepared (known : Known) (statement : Statement) (reply_old reply_new : List ℕ) (prepared : Prepared) : Type 0 where
@@ -160,6 +205,9 @@ IsTimeless (Flushes table) = ⊤
 IsTimeless (Selects rows) = ⊤
 IsTimeless (Traces on) = ⊤
 IsTimeless ListsFiles = ⊤
+IsTimeless (Opens asked) = ⊤
+IsTimeless (Fetches asked) = ⊤
+IsTimeless (Closes cursor) = ⊤
 
 -- the same, where what doesn't depend on the time is prepared whatever the largest timestamp
 pub record IsPreparedFor (known : Known) (statement : Statement) (reply_old reply_new : List ℕ) (prepared : Prepared) : Type 0 where
@@ -176,10 +224,14 @@ CanBeDone s (Flushes table) = HasTable s table
 CanBeDone s (Selects rows) = ⊤
 CanBeDone s (Traces on) = ⊤
 CanBeDone s ListsFiles = ⊤
+CanBeDone s (Opens asked) = ⊤
+CanBeDone s (Fetches asked) = ⊤
+CanBeDone s (Closes cursor) = ⊤
 
--- the statement is built, and isn't a SELECT
+-- the statement is built, and has no SELECT
 abbrev pub IsChanging : Statement → Type 0
 IsChanging (Query select) = ⊥
+IsChanging (OpenCursor cursor select) = ⊥
 IsChanging statement = is_built statement ≡ true
 
 -- ---- what a piece asks for
@@ -228,3 +280,6 @@ Prepares s piece reply (Flushes table) = StepsTo s piece s reply (outcome_of Non
 Prepares s piece reply (Selects rows) = StepsTo s piece s (answer_rows s rows) (outcome_of None) × (reply ≡ []) × HasRows s rows × SaysOne piece (λ statement. SelectsRows s statement rows)
 Prepares s piece reply (Traces on) = StepsTo s piece s reply (outcome_of None) × SaysOne piece (λ statement. TurnsTrace s statement on)
 Prepares s piece reply ListsFiles = StepsTo s piece s reply (outcome_of None) × (reply ≡ []) × SaysOne piece (AsksFiles s)
+Prepares s piece reply (Opens asked) = StepsTo s piece s [] (outcome_of None) × (reply ≡ []) × SaysOne piece (λ statement. OpensCursor s statement asked)
+Prepares s piece reply (Fetches asked) = StepsTo s piece s [] (outcome_of None) × (reply ≡ []) × SaysOne piece (λ statement. FetchesRows s statement asked)
+Prepares s piece reply (Closes cursor) = StepsTo s piece s [] (outcome_of None) × (reply ≡ []) × SaysOne piece (λ statement. ClosesCursor s statement cursor)

@@ -5,7 +5,7 @@ use Rattle.sasi_schema.specs.declared.fault.Limit.TheVariants.{Tables, Columns}
 use Rattle.sasi_model.specs.Refusals as rules
 use Rattle.sasi_model.specs.Abbreviations as model
 use Rattle.sasi_machine.specs.declared.refusal.Refusal.{Refusal}
-use Rattle.sasi_machine.specs.declared.refusal.Refusal.TheVariants.{Syntax, StatementTooLong, NotUtf8, NoTable, TableExists, NoColumn, ColumnRepeated, WrongType, NumberRange, LimitRange, KeyMissing, KeyEmpty, ValueTooLong, IndexExists, BadOption, BadUsing, ModeType, OperatorUnsupported, LikeEmpty, NeedsFiltering, TimestampRange, ClockSpent, TooMany, TooManyRelations, ScriptEnds, NotBuilt}
+use Rattle.sasi_machine.specs.declared.refusal.Refusal.TheVariants.{Syntax, StatementTooLong, NotUtf8, NoTable, TableExists, NoColumn, ColumnRepeated, WrongType, NumberRange, LimitRange, KeyMissing, KeyEmpty, ValueTooLong, IndexExists, BadOption, BadUsing, ModeType, OperatorUnsupported, LikeEmpty, NeedsFiltering, TimestampRange, ClockSpent, TooMany, TooManyRelations, CursorExists, NoCursor, TooManyCursors, FetchRange, ScriptEnds, NotBuilt}
 
 -- the model's refusal of that name
 abbrev pub refusal_of : Refusal → rules.Refusal
@@ -33,6 +33,10 @@ refusal_of TimestampRange = model.TimestampRange
 refusal_of ClockSpent = model.ClockSpent
 refusal_of (TooMany limit) = limit_refusal limit
 refusal_of TooManyRelations = model.TooManyRelations
+refusal_of (CursorExists cursor) = model.CursorExists cursor
+refusal_of (NoCursor cursor) = model.NoCursor cursor
+refusal_of TooManyCursors = model.TooManyCursors
+refusal_of FetchRange = model.FetchRange
 refusal_of ScriptEnds = model.ScriptEnds
 refusal_of NotBuilt = model.NotBuilt
 
@@ -58,6 +62,8 @@ name_in (IndexExists name) = Some name
 name_in (ModeType name) = Some name
 name_in (OperatorUnsupported name) = Some name
 name_in (LikeEmpty name) = Some name
+name_in (CursorExists name) = Some name
+name_in (NoCursor name) = Some name
 name_in (BadOption option) = option_shown option
 name_in refusal = None
 
@@ -69,4 +75,6 @@ words_in BadUsing = codes "using"
 words_in (TooMany Tables) = codes "tables 256"
 words_in (TooMany Columns) = codes "columns 64"
 words_in TooManyRelations = codes "relations 32"
+words_in TooManyCursors = codes "cursors 64"
+words_in FetchRange = codes "FETCH"
 words_in refusal = []

@@ -16,7 +16,10 @@ pub fn is_built(statement: &Statement) -> bool
         | Statement::Query { .. }
         | Statement::Flush { .. }
         | Statement::Trace { .. }
-        | Statement::ShowFiles => true,
+        | Statement::ShowFiles
+        | Statement::OpenCursor { .. }
+        | Statement::Fetch { .. }
+        | Statement::CloseCursor { .. } => true,
         Statement::CreateIndex { stepped, .. } => !*stepped,
         _ => false,
     }

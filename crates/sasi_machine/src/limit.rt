@@ -1,8 +1,9 @@
 // The LIMIT of a SELECT.
-ghost use Rattle.std.specs.Prelude.{◌≡◌, false};
+ghost use Rattle.std.specs.Prelude.{◌≡◌, true, false, IfNone, IfSome};
 ghost use Rattle.sasi_types.specs.declared.literal.Number.TheVariants.{Fits};
 ghost use Rattle.sasi_model.specs.Filters.{row_limit};
 ghost use Rattle.sasi_model.specs.Refusals.{is_count, limit_range};
+ghost use Rattle.sasi_model.specs.Sessions.{fetch_count};
 
 use sasi_types::Number;
 
@@ -31,5 +32,16 @@ pub fn row_limit(limit: Option<Number>) -> Option<u64>
     match limit {
         Some(Number::Fits(rows)) => Some(rows as u64),
         Some(Number::Wide) | None => None,
+    }
+}
+
+/// How many rows a FETCH asks for; None where it isn't a number of rows.
+pub fn row_count(count: Number) -> Option<u32>
+    ensures some { IfSome result (λ rows. (is_count count ≡ true) × (rows ≡ fetch_count count)) }
+    ensures none { IfNone result (is_count count ≡ false) }
+{
+    match count {
+        Number::Fits(rows) if is_count(rows) => Some(rows as u32),
+        Number::Fits(_) | Number::Wide => None,
     }
 }

@@ -1,9 +1,11 @@
 // The machine.
-ghost use Rattle.std.specs.Prelude.{◌≡◌, ◌++◌, false, map, IfErr, IfOk, OnOk, OnErr};
+ghost use Rattle.std.specs.Prelude.{◌≡◌, ◌++◌, [], false, map, IfErr, IfOk, OnOk, OnErr};
 ghost use Rattle.sasi_analyzers.specs.Kits.{has_class};
 ghost use Rattle.sasi_model.specs.Pieces.{piece_of};
 ghost use Rattle.sasi_model.specs.Abbreviations.{empty_state};
 ghost use Rattle.sasi_model.specs.Changes.{state_with_index, with_new_table};
+ghost use Rattle.sasi_model.specs.Parsers.{grammar_parser};
+ghost use Rattle.sasi_model.specs.Sessions.{SessionState, turn_by};
 ghost use Rattle.sasi_model.specs.Step.{step};
 ghost use Rattle.sasi_schema.specs.Defined.{definition};
 ghost use Rattle.sasi_schema.specs.SchemaViews.{index_of_new};
@@ -12,11 +14,13 @@ ghost use Rattle.sasi_machine.specs.Outcome.{outcome_of};
 ghost use Rattle.sasi_cells.specs.Mutations.{state_with_mutation};
 ghost use Rattle.sasi_machine.specs.Prepares.{HasRows, IsAddable, IsApplicable, IsNewTable, Prepares, answer_rows};
 
+use crate::cursors::open_refusal;
 use crate::memtables::{add_within, merge_into, reserve_one};
 use crate::prepared::{Prepared, Selection};
 use crate::preparing::prepare;
+use crate::reply_refusal::reply_refusal;
 use crate::table_rows::print_rows;
-use crate::{Outcome, Reply, RowQuery};
+use crate::{Outcome, Refusal, Reply, RowQuery};
 use sasi_analyzers::{Analyzer, Kit, Whole, Words};
 use sasi_cells::Mutation;
 use sasi_memtable::Memtable;
@@ -71,7 +75,7 @@ impl Machine {
         self.partitioner
     }
 
-    /// Runs one piece: prepares it, and applies what was prepared. After an error the reply may be incomplete.
+    /// Runs one piece: prepares it, and applies what was prepared. No cursor is open. After an error the reply may be incomplete.
     pub fn step(
         &mut self,
         piece: &[u8],
@@ -79,8 +83,8 @@ impl Machine {
         reply: &mut Reply,
     ) -> Result<Outcome, AllocError>
         ensures state { OnOk result (self.new ≡ (step self.old (piece_of end piece.now)).state) }
-        ensures reply { OnOk result (reply.new ≡ (step self.old (piece_of end piece.now)).reply) }
-        ensures outcome { IfOk result (λ o. o ≡ outcome_of (step self.old (piece_of end piece.now)).refused) }
+        ensures reply { OnOk result ((x : SessionState) → x.cursors ≡ [] → reply.new ≡ (turn_by grammar_parser x self.old (piece_of end piece.now)).reply) }
+        ensures outcome { IfOk result (λ o. (x : SessionState) → x.cursors ≡ [] → o ≡ outcome_of (turn_by grammar_parser x self.old (piece_of end piece.now)).refused) }
         ensures err { OnErr result (self.new ≡ self.old) }
     {
         let mut analyzers: Vec<Box<dyn Analyzer>> = Vec::new(self.alloc);
@@ -103,8 +107,8 @@ impl Machine {
         reply: &mut Reply,
     ) -> Result<Outcome, KitFault>
         ensures state { OnOk result (self.new ≡ (step self.old (piece_of end piece.now)).state) }
-        ensures reply { OnOk result (reply.new ≡ (step self.old (piece_of end piece.now)).reply) }
-        ensures outcome { IfOk result (λ o. o ≡ outcome_of (step self.old (piece_of end piece.now)).refused) }
+        ensures reply { OnOk result ((x : SessionState) → x.cursors ≡ [] → reply.new ≡ (turn_by grammar_parser x self.old (piece_of end piece.now)).reply) }
+        ensures outcome { IfOk result (λ o. (x : SessionState) → x.cursors ≡ [] → o ≡ outcome_of (turn_by grammar_parser x self.old (piece_of end piece.now)).refused) }
         ensures err { OnErr result (self.new ≡ self.old) }
         ensures missing { IfErr result (OnMissing (λ class. has_class class (map (λ b. kind (b.vtable, b.value)) kit.old.objects.items) ≡ false)) }
     {
@@ -127,6 +131,9 @@ impl Machine {
                 self.print(&rows, kit, reply)?;
                 Ok(Outcome::Done)
             }
+            Prepared::Open(asked) => Ok(reply_refusal(reply, open_refusal(&asked))?),
+            Prepared::Fetch(asked) => Ok(reply_refusal(reply, Refusal::NoCursor(asked.cursor))?),
+            Prepared::Close(cursor) => Ok(reply_refusal(reply, Refusal::NoCursor(cursor))?),
         }
     }
 

@@ -2,7 +2,7 @@
 use crate::Outcome;
 use sasi_cells::Mutation;
 use sasi_schema::{NewIndex, Table};
-use sasi_types::{Select, TableNumber};
+use sasi_types::{Name, Select, TableNumber};
 
 /// What is left to do for a piece, once its reply is known.
 #[derive(Drop)]
@@ -23,6 +23,12 @@ pub enum Prepared {
     Trace(bool),
     /// The lines of the files, which are to be printed behind the reply so far.
     Files,
+    /// A cursor to open, unless a rule of cursors refuses it.
+    Open(OpenAsked),
+    /// Rows of a cursor to be printed behind the reply so far, where one has the name.
+    Fetch(FetchAsked),
+    /// A cursor to close, where one has the name.
+    Close(Name),
 }
 
 /// A SELECT that isn't refused, and the number of its table.
@@ -30,4 +36,18 @@ pub enum Prepared {
 pub struct Selection {
     pub table: TableNumber,
     pub select: Select,
+}
+
+/// An OPEN. No rule refuses its SELECT, but perhaps that of the number of relations, which comes after the rules of cursors.
+#[derive(Drop)]
+pub struct OpenAsked {
+    pub cursor: Name,
+    pub rows: Selection,
+}
+
+/// A FETCH of at most so many rows, from 1 to 2^31 - 1.
+#[derive(Drop)]
+pub struct FetchAsked {
+    pub cursor: Name,
+    pub count: u32,
 }

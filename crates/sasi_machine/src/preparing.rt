@@ -1,6 +1,6 @@
 // The preparing of pieces, before anything changes.
 ghost use Rattle.std.specs.Prelude.{◌≡◌, ◌≤◌, ℕ, List, true, map, IfErr, IfOk};
-ghost use Rattle.sasi_types.specs.declared.statement.Statement.TheVariants.{CreateTable, Flush, ShowFiles, Trace};
+ghost use Rattle.sasi_types.specs.declared.statement.Statement.TheVariants.{CloseCursor, CreateTable, Fetch, Flush, ShowFiles, Trace};
 ghost use Rattle.sasi_model.specs.Abbreviations.{TIME_LIMIT as time_limit};
 ghost use Rattle.sasi_model.specs.Asked.{asks};
 ghost use Rattle.sasi_model.specs.Pieces.{piece_of};
@@ -15,16 +15,17 @@ ghost use Rattle.sasi_machine.specs.Writes.{IsWriting};
 use crate::builder::MutationBuilder;
 use crate::fault::Fault;
 use crate::index::prepare_index;
-use crate::prepared::Prepared;
+use crate::limit::row_count;
+use crate::prepared::{FetchAsked, Prepared};
 use crate::read::{ParsedPiece, read};
 use crate::reply_refusal::{reply_fault, reply_refusal};
-use crate::select::prepare_select;
+use crate::select::{prepare_open, prepare_select};
 use crate::statement_mutation::statement_mutation;
 use crate::{Outcome, Refusal, Reply};
 use sasi_analyzers::Kit;
 use sasi_print::ok;
 use sasi_schema::Schema;
-use sasi_types::{Columns, DeclaredColumns, KitFault, Name, Names, PieceEnd, Statement};
+use sasi_types::{Columns, DeclaredColumns, KitFault, Name, Names, Number, PieceEnd, Statement};
 use std::alloc::{AllocError, Global};
 
 /// Prepares a piece for these tables, where this is the largest timestamp of their state. The reply is replaced; after an
@@ -83,6 +84,7 @@ fn prepare_statement(
 {
     match statement {
         Statement::Query { select } => prepare_select(builder.alloc, schema, select, kit, reply),
+        Statement::OpenCursor { cursor, select } => prepare_open(builder.alloc, schema, cursor, select, kit, reply),
         other => Ok(prepare_other(builder, schema, other, reply)?),
     }
 }
@@ -144,6 +146,8 @@ fn prepare_other(
         Statement::Flush { table } => prepare_flush(schema, table, reply),
         Statement::Trace { on } => prepare_trace(on, reply),
         Statement::ShowFiles => Ok(prepare_files()),
+        Statement::Fetch { cursor, count } => prepare_fetch(cursor, count, reply),
+        Statement::CloseCursor { cursor } => Ok(prepare_close(cursor)),
         write => prepare_mutation(builder, schema, write, reply),
     }
 }
@@ -213,6 +217,25 @@ fn prepare_files() -> Prepared
     ensures { (known : Known) (reply : List ℕ) → IsPrepared known ShowFiles reply reply result }
 {
     Prepared::Files
+}
+
+fn prepare_fetch(cursor: Name, count: Number, reply: &mut Reply) -> Result<Prepared, AllocError>
+    ensures { IfOk result (λ prepared. (known : Known) → IsPrepared known (Fetch cursor count) reply.old reply.new prepared) }
+{
+    match row_count(count) {
+        Some(count) => Ok(Prepared::Fetch(FetchAsked { cursor, count })),
+        None => {
+            let outcome = reply_refusal(reply, Refusal::FetchRange)?;
+            Ok(Prepared::Answered(outcome))
+        }
+    }
+}
+
+// Whether a cursor has the name is not known here.
+fn prepare_close(cursor: Name) -> Prepared
+    ensures { (known : Known) (reply : List ℕ) → IsPrepared known (CloseCursor cursor) reply reply result }
+{
+    Prepared::Close(cursor)
 }
 
 // An INSERT, an UPDATE or a DELETE.

@@ -43,6 +43,13 @@ pub enum Refusal {
     ClockSpent,
     TooMany(Limit),
     TooManyRelations,
+    /// The cursor whose name is taken.
+    CursorExists(Name),
+    /// The name of no open cursor.
+    NoCursor(Name),
+    TooManyCursors,
+    /// The FETCH doesn't ask for a number of rows.
+    FetchRange,
     ScriptEnds,
     NotBuilt,
 }
@@ -61,7 +68,7 @@ impl Refusal {
             Refusal::NoColumn(_) => 6,
             Refusal::ColumnRepeated(_) => 7,
             Refusal::WrongType(_) => 8,
-            Refusal::NumberRange(_) | Refusal::LimitRange => 9,
+            Refusal::NumberRange(_) | Refusal::LimitRange | Refusal::FetchRange => 9,
             Refusal::KeyMissing(_) => 10,
             Refusal::KeyEmpty(_) => 11,
             Refusal::ValueTooLong(_) => 12,
@@ -73,7 +80,9 @@ impl Refusal {
             Refusal::NeedsFiltering => 19,
             Refusal::TimestampRange => 20,
             Refusal::ClockSpent => 21,
-            Refusal::TooMany(_) | Refusal::TooManyRelations => 24,
+            Refusal::CursorExists(_) => 22,
+            Refusal::NoCursor(_) => 23,
+            Refusal::TooMany(_) | Refusal::TooManyRelations | Refusal::TooManyCursors => 24,
             Refusal::ScriptEnds => 25,
             Refusal::NotBuilt => 90,
         }
@@ -97,7 +106,9 @@ impl Refusal {
             | Refusal::IndexExists(name)
             | Refusal::ModeType(name)
             | Refusal::OperatorUnsupported(name)
-            | Refusal::LikeEmpty(name) => Some(name.bytes()),
+            | Refusal::LikeEmpty(name)
+            | Refusal::CursorExists(name)
+            | Refusal::NoCursor(name) => Some(name.bytes()),
             Refusal::BadOption(option) => shown(option.bytes()),
             Refusal::Syntax(_)
             | Refusal::NotUtf8(_)
@@ -109,6 +120,8 @@ impl Refusal {
             | Refusal::ClockSpent
             | Refusal::TooMany(_)
             | Refusal::TooManyRelations
+            | Refusal::TooManyCursors
+            | Refusal::FetchRange
             | Refusal::ScriptEnds
             | Refusal::NotBuilt => None,
         }
@@ -125,6 +138,8 @@ impl Refusal {
             Refusal::TooMany(Limit::Tables) => "tables 256",
             Refusal::TooMany(Limit::Columns) => "columns 64",
             Refusal::TooManyRelations => "relations 32",
+            Refusal::TooManyCursors => "cursors 64",
+            Refusal::FetchRange => "FETCH",
             _ => "",
         }
     }

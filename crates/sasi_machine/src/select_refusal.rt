@@ -3,10 +3,10 @@ ghost use Rattle.std.specs.Prelude.{◌≡◌, [], Some, IfOk, IfErr, map, unwra
 ghost use Rattle.std.specs.List.{AllByRecursion, list_any};
 ghost use Rattle.std.specs.Option.{option_map};
 ghost use Rattle.sasi_model.specs.Abbreviations.{first_refusal};
-ghost use Rattle.sasi_model.specs.Refusals.{is_filtered, no_column, select_rules};
+ghost use Rattle.sasi_model.specs.Refusals.{answer_rules, is_filtered, no_column, select_rules, too_many_relations};
 ghost use Rattle.sasi_model.specs.WellFormed.{IsWellFormedRelation, IsWellFormedSelect};
 ghost use Rattle.sasi_schema.specs.Defined.{definition};
-ghost use Rattle.sasi_machine.specs.Checks.{after_columns_rules, after_limit_rules, after_operands_rules, count_rules};
+ghost use Rattle.sasi_machine.specs.Checks.{after_columns_rules, after_limit_rules, after_operands_rules, filtering_rules};
 ghost use Rattle.sasi_machine.specs.Classes.{OnMissing, TableLacks};
 ghost use Rattle.sasi_machine.specs.Refusal.{refusal_of};
 
@@ -33,6 +33,31 @@ pub fn select_refusal(
 ) -> Result<Option<Refusal>, KitFault>
     requires { IsWellFormedSelect select.now }
     ensures refusal { IfOk result (λ refusal. option_map refusal_of refusal ≡ first_refusal (select_rules select.now (Some (definition table.now)))) }
+    ensures missing { IfErr result (OnMissing (TableLacks (map (λ b. kind (b.vtable, b.value)) kit.old.objects.items) (definition table.now))) }
+    ensures kinds { map (λ b. kind (b.vtable, b.value)) kit.new.objects.items ≡ map (λ b. kind (b.vtable, b.value)) kit.old.objects.items }
+{
+    match answer_refusal(alloc, table, select, kit)? {
+        Some(refusal) => Ok(Some(refusal)),
+        None => Ok(relations_refusal(select)),
+    }
+}
+
+/// The refusal of a SELECT by the number of its relations, the last of its rules.
+pub fn relations_refusal(select: &Select) -> Option<Refusal>
+    ensures { option_map refusal_of result ≡ first_refusal (too_many_relations select.now ∷ []) }
+{
+    (select.relations.len() > RELATION_LIMIT).then_some(Refusal::TooManyRelations)
+}
+
+/// The refusal of a SELECT on this table by another rule than the number of its relations, if one applies.
+pub fn answer_refusal(
+    alloc: Global,
+    table: &Table,
+    select: &Select,
+    kit: &mut Kit,
+) -> Result<Option<Refusal>, KitFault>
+    requires { IsWellFormedSelect select.now }
+    ensures refusal { IfOk result (λ refusal. option_map refusal_of refusal ≡ first_refusal (answer_rules select.now (Some (definition table.now)))) }
     ensures missing { IfErr result (OnMissing (TableLacks (map (λ b. kind (b.vtable, b.value)) kit.old.objects.items) (definition table.now))) }
     ensures kinds { map (λ b. kind (b.vtable, b.value)) kit.new.objects.items ≡ map (λ b. kind (b.vtable, b.value)) kit.old.objects.items }
 {
@@ -123,19 +148,16 @@ fn search_refusal(
 {
     match searches_refusal(alloc, table, relations, kit)? {
         Some(refusal) => Ok(Some(refusal)),
-        None => Ok(count_refusal(table, filtering, relations)),
+        None => Ok(filtering_refusal(table, filtering, relations)),
     }
 }
 
-// That of the number of its relations, and of columns that need ALLOW FILTERING.
-fn count_refusal(table: &Table, filtering: bool, relations: &[Relation]) -> Option<Refusal>
-    ensures { option_map refusal_of result ≡ first_refusal (count_rules (definition table.now) filtering relations.now) }
+// That of columns that need ALLOW FILTERING.
+fn filtering_refusal(table: &Table, filtering: bool, relations: &[Relation]) -> Option<Refusal>
+    ensures { option_map refusal_of result ≡ first_refusal (filtering_rules (definition table.now) filtering relations.now) }
 {
     if !filtering && (relations.len() >= 2 || any_filtered(table, relations)) {
         return Some(Refusal::NeedsFiltering);
-    }
-    if relations.len() > RELATION_LIMIT {
-        return Some(Refusal::TooManyRelations);
     }
     None
 }
