@@ -1,3 +1,5 @@
+pub mod SessionTurns
+pub mod MachineTurns
 pub mod CheckSteps
 pub mod Texts
 pub mod Asking
@@ -12,6 +14,7 @@ pub mod KeyLiterals
 pub mod Passed
 pub mod Picked
 pub mod StatementPreparing
+pub mod SelectPreparing
 pub mod PreparedPieces
 pub mod Printed
 pub mod Stored
