@@ -1,3 +1,4 @@
+pub mod SessionTurns
 pub mod CheckSteps
 pub mod Texts
 pub mod Asking

@@ -1,5 +1,5 @@
 -- What a piece prepares: an answer alone, a new table, a new index, a mutation, a flush, rows to print, or TRACE.
-use Rattle.std.specs.Prelude.{◌≡◌, ◌⊎◌, ℕ, ◌+◌, ◌-◌, ◌<◌, ◌≤◌, Bool, List, length, slice_get, [], IsSome, None, Some, true, ⊤}
+use Rattle.std.specs.Prelude.{◌≡◌, ◌⊎◌, ℕ, ◌+◌, ◌-◌, ◌<◌, ◌≤◌, Bool, List, Option, length, slice_get, [], IsSome, None, Some, true, ⊤}
 use Rattle.std.specs.FinMap as map_
 use Rattle.std.specs.Option.{option_map_or}
 use Rattle.sasi_types.specs.declared.column.ColumnType.{ColumnType}

@@ -29,7 +29,6 @@ pub mod ListedSchema
 pub mod FlushingTables
 pub mod ListedFrames
 pub mod Composition
-pub mod SessionLaws
 pub mod Stepping
 pub mod NoFile
 pub mod ToldFiles
