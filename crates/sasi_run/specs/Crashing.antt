@@ -12,10 +12,10 @@ use Rattle.sasi_machine.specs.Prepares.{IsStateOf}
 use Rattle.sasi_host.specs.declared.damage.Damage.{Damage}
 use Rattle.sasi_host.specs.View.{CrashLeaves, IsTold, View, counted_by}
 use Rattle.sasi_cql.specs.SplitterState.{resume}
-use Rattle.sasi_layout.specs.Layout.{state_of}
+use Rattle.sasi_layout.specs.Layout.{Layout, state_of}
 use Rattle.sasi_layout.specs.Running.{Crashed, after_pieces, replies_of}
 use Rattle.sasi_layout.specs.Serving.{Ended, closed, known_in_memory}
-use Rattle.sasi_store.specs.Worlds.{HasNoCursor, ServesWorld, World, steps}
+use Rattle.sasi_store.specs.Worlds.{HasNoCursor, ServesWorld, World, new_world, steps}
 use Rattle.sasi_store.specs.StoreView.{IsReady, StoreView}
 use Rattle.sasi_run.specs.declared.session.Session.{Session}
 use Rattle.sasi_run.specs.declared.session.Stop.{Stop}
@@ -177,8 +177,8 @@ pub record RunsWorld (kinds : List Class) (status : Status) (w : World) (left_ol
   pub needs : NeedsByStatus kinds status w (script_of left_old runs.read) runs.read runs.shown
   pub undamaged : (damage : Damage) → status ≢ Damaged damage
 
--- the run of a store from each state that it was of, with a new session, and from each world that it served
+-- the run of a store, with a new session, from each state that it was of, and from each layout that it served
 pub record RunsCrashSafe (kinds : List Class) (status : Status) (store : StoreView) (left_old left_new : Option (List ℕ)) (a b : View) : Type 0 where
   pub anywhere : (s : State) → IsOfState store new_session s → Runs grammar_parser (but_stored grammar_parser) status s left_old left_new a.emitted b.emitted
-  pub from : (w : World) → ServesWorld a store.memory store.trace w → RunsWorld kinds status w left_old left_new a b
+  pub from : (l : Layout) → ServesWorld a store.memory store.trace (new_world l) → RunsWorld kinds status (new_world l) left_old left_new a b
   pub lacks : (class : Class) → status ≡ AnalyzerMissing class → has_class class kinds ≡ false
