@@ -14,7 +14,6 @@ use Rattle.sasi_model.specs.Refusals.{Says, read}
 use Rattle.sasi_machine.specs.Outcome.{outcome_of}
 use Rattle.sasi_model.specs.Sessions.{Turn, tail_bytes}
 use Rattle.sasi_model.specs.State.{State}
-use Rattle.sasi_model.specs.Step.{step}
 use Rattle.sasi_types.specs.declared.class.Class.{Class}
 use Rattle.sasi_types.specs.declared.statement.Statement.{Statement}
 use Rattle.sasi_types.specs.declared.statement.Statement.TheVariants.{ShowFiles}

@@ -45,7 +45,7 @@ use Rattle.sasi_model.specs.Parsers.{grammar_parser}
 use Rattle.sasi_model.specs.Sessions.{CheckedTail, NoTail, SessionState, Tail, Turn, refused_by, refused_turn, tail_bytes, turn_by}
 use Rattle.sasi_model.specs.State.{Definition, State, max_timestamp}
 use Rattle.sasi_model.specs.Step.{step}
-use Rattle.sasi_store.specs.Answers.{Answered, AnsweredButRows}
+use Rattle.sasi_store.specs.Answers.{AnsweredButRows}
 use Rattle.sasi_store.specs.Faults.{OnMissing, OnSpent, OnStepDamage, StepCauses, fault_of_kit}
 use Rattle.sasi_store.proofs.KnownClasses.{no_table_lacks}
 use Rattle.sasi_schema.specs.Numbers.{number_of_table}

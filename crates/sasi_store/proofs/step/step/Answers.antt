@@ -18,6 +18,7 @@ use Rattle.sasi_store.specs.Worlds.{rows_tail, selection_checks}
 use Rattle.sasi_store.proofs.Known.{created_state, defined_state, known_after, known_as, written_state}
 use Rattle.sasi_store.proofs.Prepared.{HasPrepared, blank, blank_definitions, creatable, definable, has_table_for, new_unindexed, selectable, writable}
 use Rattle.sasi_store.proofs.NoFile.{UsesHost, needs_host}
+use Rattle.sasi_store.proofs.StepCursors.{step_closed, step_fetched, step_opened}
 use Rattle.sasi_store.proofs.StepFiles.{step_listed}
 use Rattle.sasi_store.proofs.Stepping.{select_answered, select_failed, select_turns, select_within, state_is, step_answered, step_failed, step_full, step_made, step_missing, step_traced, step_unprepared, trace_left}
 use Rattle.sasi_store.proofs.step.step.Goals as goal
@@ -325,3 +326,56 @@ returns-in_ok-show_files-in-Files-clause-steps g c =
     let all : HasPrepared parts piece c.prepare.new.reply c.in_ok-outcome.field-0 = record { asked = e.asked; prepares = e.prepares; timeless = e.timeless; selects = e.selects } in
     let has = subst (HasPrepared parts piece c.prepare.new.reply) c.in-Files.is all in
     step_listed (map (λ b. (goal.Analyzer-dyn g (b.vtable, b.value)).kind b.value) c.args.kit.now.objects.items) (g.H.Host.view c.args.host.now) (g.met.H.Host.sound c.args.host.now) (memory_of parts) piece c.prepare.new.reply c.show_files.new.reply c.requires.ready has.asked has.prepares c.in_ok-show_files-in-Files.ensures
+
+-- ---- statements on cursors
+
+pub returns-in_err-refuse-in-Open-clause-steps : goal.returns-in_err-refuse-in-Open-clause-steps
+returns-in_err-refuse-in-Open-clause-steps g c =
+    let p = err_from_is_err_and c.from_residual-in_err-refuse-in-Open.result c.from_residual-in_err-refuse-in-Open.ensures.1 in
+    rw (p.1, p.2) (step_full (map (λ b. (goal.Analyzer-dyn g (b.vtable, b.value)).kind b.value) c.args.kit.now.objects.items) (g.H.Host.view c.args.host.now) (g.met.H.Host.sound c.args.host.now) (memory_of c.args.parts.now) (piece_of c.args.end c.args.piece.now) c.refuse.new.reply)
+
+pub returns-in_ok-refuse-in-Open-clause-steps : goal.returns-in_ok-refuse-in-Open-clause-steps
+returns-in_ok-refuse-in-Open-clause-steps g c =
+    let v = g.H.Host.view c.args.host.now in
+    let parts = c.args.parts.now in
+    let piece = piece_of c.args.end c.args.piece.now in
+    let e = c.in_ok-outcome.ensures in
+    let all : HasPrepared parts piece c.prepare.new.reply c.in_ok-outcome.field-0 = record { asked = e.asked; prepares = e.prepares; timeless = e.timeless; selects = e.selects } in
+    let has = subst (HasPrepared parts piece c.prepare.new.reply) c.in-Open.is all in
+    let prepared = has.timeless tt (blank v parts c.requires.ready) (blank_definitions v parts c.requires.ready) in
+    step_opened (map (λ b. (goal.Analyzer-dyn g (b.vtable, b.value)).kind b.value) c.args.kit.now.objects.items) v (g.met.H.Host.sound c.args.host.now) (memory_of parts) piece c.prepare.new.reply c.refuse.new.reply _ c.requires.ready has.asked prepared.1
+    c.in-Open.asked _ c.open_refusal.ensures has.prepares c.in_ok-refuse-in-Open.ensures.reply c.in_ok-refuse-in-Open.ensures.outcome
+
+pub returns-in_err-refuse-in-Fetch-clause-steps : goal.returns-in_err-refuse-in-Fetch-clause-steps
+returns-in_err-refuse-in-Fetch-clause-steps g c =
+    let p = err_from_is_err_and c.from_residual-in_err-refuse-in-Fetch.result c.from_residual-in_err-refuse-in-Fetch.ensures.1 in
+    rw (p.1, p.2) (step_full (map (λ b. (goal.Analyzer-dyn g (b.vtable, b.value)).kind b.value) c.args.kit.now.objects.items) (g.H.Host.view c.args.host.now) (g.met.H.Host.sound c.args.host.now) (memory_of c.args.parts.now) (piece_of c.args.end c.args.piece.now) c.refuse-in-Fetch.new.reply)
+
+pub returns-in_ok-refuse-in-Fetch-clause-steps : goal.returns-in_ok-refuse-in-Fetch-clause-steps
+returns-in_ok-refuse-in-Fetch-clause-steps g c =
+    let v = g.H.Host.view c.args.host.now in
+    let parts = c.args.parts.now in
+    let piece = piece_of c.args.end c.args.piece.now in
+    let e = c.in_ok-outcome.ensures in
+    let all : HasPrepared parts piece c.prepare.new.reply c.in_ok-outcome.field-0 = record { asked = e.asked; prepares = e.prepares; timeless = e.timeless; selects = e.selects } in
+    let has = subst (HasPrepared parts piece c.prepare.new.reply) c.in-Fetch.is all in
+    let prepared = has.timeless tt (blank v parts c.requires.ready) (blank_definitions v parts c.requires.ready) in
+    step_fetched (map (λ b. (goal.Analyzer-dyn g (b.vtable, b.value)).kind b.value) c.args.kit.now.objects.items) v (g.met.H.Host.sound c.args.host.now) (memory_of parts) piece c.prepare.new.reply c.refuse-in-Fetch.new.reply _ c.requires.ready has.asked prepared.1
+    c.in-Fetch.asked has.prepares c.in_ok-refuse-in-Fetch.ensures.reply c.in_ok-refuse-in-Fetch.ensures.outcome
+
+pub returns-in_err-refuse-in-Close-clause-steps : goal.returns-in_err-refuse-in-Close-clause-steps
+returns-in_err-refuse-in-Close-clause-steps g c =
+    let p = err_from_is_err_and c.from_residual-in_err-refuse-in-Close.result c.from_residual-in_err-refuse-in-Close.ensures.1 in
+    rw (p.1, p.2) (step_full (map (λ b. (goal.Analyzer-dyn g (b.vtable, b.value)).kind b.value) c.args.kit.now.objects.items) (g.H.Host.view c.args.host.now) (g.met.H.Host.sound c.args.host.now) (memory_of c.args.parts.now) (piece_of c.args.end c.args.piece.now) c.refuse-in-Close.new.reply)
+
+pub returns-in_ok-refuse-in-Close-clause-steps : goal.returns-in_ok-refuse-in-Close-clause-steps
+returns-in_ok-refuse-in-Close-clause-steps g c =
+    let v = g.H.Host.view c.args.host.now in
+    let parts = c.args.parts.now in
+    let piece = piece_of c.args.end c.args.piece.now in
+    let e = c.in_ok-outcome.ensures in
+    let all : HasPrepared parts piece c.prepare.new.reply c.in_ok-outcome.field-0 = record { asked = e.asked; prepares = e.prepares; timeless = e.timeless; selects = e.selects } in
+    let has = subst (HasPrepared parts piece c.prepare.new.reply) c.in-Close.is all in
+    let prepared = has.timeless tt (blank v parts c.requires.ready) (blank_definitions v parts c.requires.ready) in
+    step_closed (map (λ b. (goal.Analyzer-dyn g (b.vtable, b.value)).kind b.value) c.args.kit.now.objects.items) v (g.met.H.Host.sound c.args.host.now) (memory_of parts) piece c.prepare.new.reply c.refuse-in-Close.new.reply _ c.requires.ready has.asked prepared.1
+    c.in-Close.cursor has.prepares c.in_ok-refuse-in-Close.ensures.reply c.in_ok-refuse-in-Close.ensures.outcome
