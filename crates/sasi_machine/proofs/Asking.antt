@@ -14,7 +14,7 @@ use Rattle.sasi_types.specs.declared.relation.Relation.{Relation}
 use Rattle.sasi_types.specs.declared.relation.Test.TheVariants.{Like}
 use Rattle.sasi_types.specs.declared.statement.Select.{Select}
 use Rattle.sasi_model.specs.Abbreviations.{column_at, first_refusal, key_name, name_or_none}
-use Rattle.sasi_model.specs.Refusals.{RefusalRule, is_key, is_null, is_of, is_within, key_empty, like_empty, limit_range, no_column, number_range, operand_rules, operator_unsupported, relation_rules, search_rules, tests_number, type_of_column, value_too_long, wrong_where}
+use Rattle.sasi_model.specs.Refusals.{RefusalRule, is_key, is_null, is_of, is_within, key_empty, like_empty, limit_range, no_column, number_range, operand_rules, operator_unsupported, relation_rules, search_rules, tests_number, answer_rules, too_many_relations, type_of_column, value_too_long, wrong_where}
 use Rattle.sasi_model.specs.Relations.{asks_nothing, is_empty_like, rule_on}
 use Rattle.sasi_model.specs.State.{Definition, number_at, number_of_column, position_in}
 use Rattle.sasi_model.specs.Tokens.{same}
@@ -23,7 +23,7 @@ use Rattle.sasi_schema.proofs.Keys.{is_key_by_name}
 use Rattle.sasi_schema.proofs.Positions.{position_named}
 use Rattle.sasi_schema.proofs.RuleLaws.{none_first, none_parts}
 use Rattle.sasi_schema.specs.Numbers.{IsKeyAt}
-use Rattle.sasi_machine.specs.Checks.{after_columns_rules, after_limit_rules, after_operands_rules, count_rules}
+use Rattle.sasi_machine.specs.Checks.{after_columns_rules, after_limit_rules, after_operands_rules, filtering_rules}
 use Rattle.sasi_machine.specs.KeyLiteral.{IsKeyLiteral}
 use Rattle.sasi_machine.specs.Operands.{CanAsk, CanSearch, CanSelect, IsOperand}
 
@@ -68,9 +68,13 @@ each_can d (r ∷ rs) written pass =
     )
 
 module _ (d : Definition) (select : Select) (can : CanSelect d select) where
+  -- the rules before that of the number of relations pass
+  answer_taken : first_refusal (answer_rules select (Some d)) ≡ None
+  answer_taken = (none_parts (answer_rules select (Some d)) (too_many_relations select ∷ []) can.taken).0
+
   -- the rules behind those of its columns pass
   columns_behind : first_refusal (after_columns_rules d select.limit select.filtering select.relations) ≡ None
-  columns_behind = (none_parts (map (no_column d) (unwrap_or select.columns [])) _ can.taken).1
+  columns_behind = (none_parts (map (no_column d) (unwrap_or select.columns [])) _ answer_taken).1
 
   operands_behind : first_refusal (after_operands_rules d select.limit select.filtering select.relations) ≡ None
   operands_behind = (none_parts (relation_rules operand_rules d select.relations) _ columns_behind).1
@@ -80,7 +84,7 @@ module _ (d : Definition) (select : Select) (can : CanSelect d select) where
   can_ask =
       let operands = none_parts (relation_rules operand_rules d select.relations) _ columns_behind in
       let limit = none_first (limit_range select.limit) (after_limit_rules d select.filtering select.relations) operands_behind in
-      let searches = none_parts (relation_rules search_rules d select.relations) (count_rules d select.filtering select.relations) limit.1 in
+      let searches = none_parts (relation_rules search_rules d select.relations) (filtering_rules d select.filtering select.relations) limit.1 in
       each_can d select.relations can.written.2 (all_pass d select.relations operands.0 searches.0)
 
   -- **Nor its LIMIT.**

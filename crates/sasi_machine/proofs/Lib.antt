@@ -1,4 +1,5 @@
 pub mod SessionTurns
+pub mod MachineTurns
 pub mod CheckSteps
 pub mod Texts
 pub mod Asking
@@ -13,6 +14,7 @@ pub mod KeyLiterals
 pub mod Passed
 pub mod Picked
 pub mod StatementPreparing
+pub mod CursorPreparing
 pub mod PreparedPieces
 pub mod Printed
 pub mod Stored

@@ -9,7 +9,7 @@ use Rattle.sasi_types.specs.declared.partitioner.Partitioner.TheVariants.{Lead8}
 use Rattle.sasi_types.specs.declared.index_def.IndexDef.{IndexDef}
 use Rattle.sasi_types.specs.declared.statement.Select.{Select}
 use Rattle.sasi_types.specs.declared.statement.Statement.{Statement}
-use Rattle.sasi_types.specs.declared.statement.Statement.TheVariants.{CreateTable, CreateIndex, Flush, Query, ShowFiles, Trace}
+use Rattle.sasi_types.specs.declared.statement.Statement.TheVariants.{CloseCursor, CreateTable, CreateIndex, Fetch, Flush, OpenCursor, Query, ShowFiles, Trace}
 use Rattle.sasi_cells.proofs.Laws.Times.{body_limit}
 use Rattle.sasi_cells.specs.Rows.{IsStored}
 use Rattle.sasi_model.specs.Asked as ask
@@ -36,14 +36,16 @@ use Rattle.sasi_schema.specs.declared.index.NewIndex.{NewIndex}
 use Rattle.sasi_schema.specs.declared.table.Table.{Table}
 use Rattle.sasi_machine.specs.declared.outcome.Outcome.{Outcome}
 use Rattle.sasi_machine.specs.declared.prepared.Prepared.{Prepared}
-use Rattle.sasi_machine.specs.declared.prepared.Prepared.TheVariants.{Answered, Create, Define, Write as Writes, Flush as Flushes, Select as Selects, Trace as Traces, Files as ListsFiles}
+use Rattle.sasi_machine.specs.declared.prepared.Prepared.TheVariants.{Answered, Create, Define, Write as Writes, Flush as Flushes, Select as Selects, Trace as Traces, Files as ListsFiles, Open as Opens, Fetch as Fetches, Close as Closes}
+use Rattle.sasi_machine.specs.declared.prepared.FetchAsked.{FetchAsked}
+use Rattle.sasi_machine.specs.declared.prepared.OpenAsked.{OpenAsked}
 use Rattle.sasi_machine.specs.declared.prepared.Selection.{Selection}
 use Rattle.sasi_cells.specs.declared.mutation.Mutation.{Mutation}
 use Rattle.sasi_memtable.specs.MemtableView.{MemtableView, empty_memtable}
 use Rattle.sasi_machine.specs.Outcome.{outcome_of}
 use Rattle.sasi_machine.specs.Operands.{CanSelect}
 use Rattle.sasi_cells.specs.Mutations.{state_with_mutation}
-use Rattle.sasi_machine.specs.Prepares.{AsksFiles, CanBeDone, CreatesTable, DefinesIndex, FlushesTable, HasRows, HasTable, IsAddable, IsApplicable, IsListing, IsNewTable, IsPrepared, IsPreparedFor, IsQuery, IsSelect, IsShowFiles, IsStateOf, IsTimeless, Prepares, StatementPrepares, SelectsRows, StepsTo, WritesTo, answer_rows, asked_by}
+use Rattle.sasi_machine.specs.Prepares.{AsksFiles, CanBeDone, ClosesCursor, CreatesTable, DefinesIndex, FetchesRows, FlushesTable, HasRows, HasTable, IsAddable, IsApplicable, IsListing, IsNewTable, IsPrepared, IsPreparedFor, IsQuery, IsSelect, IsShowFiles, IsStateOf, IsTimeless, OpensCursor, Prepares, StatementPrepares, SelectsRows, StepsTo, WritesTo, answer_rows, asked_by}
 use Rattle.sasi_machine.specs.Selections.{PreparesRows}
 use Rattle.sasi_machine.specs.TableRows.{AreStored}
 use Rattle.sasi_machine.specs.Tables.{AreMemtables, IsMachineState, HasMemtableFor, IsWrittenAt, state_of, tables_of, written}
@@ -158,7 +160,7 @@ files_asks known reply = record {
 
 -- ---- SELECT
 
-first_is : (rules : List RefusalRule) → IsFirstRefusal (first_refusal rules) rules
+pub first_is : (rules : List RefusalRule) → IsFirstRefusal (first_refusal rules) rules
 first_is rules = by (first_refusal rules) refl
   where
     by : (o : Option Refusal) → first_refusal rules ≡ o → IsFirstRefusal o rules
@@ -184,6 +186,9 @@ select_asks known select found reply_old reply_new (Answered outcome) written de
     refuses known (Query select) refused reply_old reply_new outcome (subst (λ (o : Option Definition). IsFirstRefusal refused (select_rules select o)) defined (first_is (select_rules select (option_map definition found)))) prepares
 select_asks known select found reply_old reply_new (Traces on) written defined numbered prepares = absurd prepares
 select_asks known select found reply_old reply_new ListsFiles written defined numbered prepares = absurd prepares
+select_asks known select found reply_old reply_new (Opens asked) written defined numbered prepares = absurd prepares
+select_asks known select found reply_old reply_new (Fetches asked) written defined numbered prepares = absurd prepares
+select_asks known select found reply_old reply_new (Closes cursor) written defined numbered prepares = absurd prepares
 select_asks known select None reply_old reply_new (Selects rows) written defined numbered prepares = absurd prepares.2
 select_asks known select (Some t) reply_old reply_new (Selects rows) written defined numbered prepares =
     let none : first_refusal (rules known (Query select)) ≡ None = subst (λ (o : Option Definition). first_refusal (select_rules select o) ≡ None) defined prepares.0 in
@@ -212,6 +217,8 @@ select_asks known select found reply_old reply_new (Create t) written defined nu
 select_asks known select found reply_old reply_new (Define new) written defined numbered prepares = absurd prepares
 select_asks known select found reply_old reply_new (Writes w) written defined numbered prepares = absurd prepares
 select_asks known select found reply_old reply_new (Flushes table) written defined numbered prepares = absurd prepares
+
+-- ---- every statement
 
 -- whatever the largest timestamp
 pub for_any : {E : Type 0} (known : Known) (statement : Statement) (reply_old reply_new : List ℕ) (result : Result Prepared E) → IfOk result (λ prepared. (max_time : ℕ) → IsPrepared (record known { max_timestamp = max_time }) statement reply_old reply_new prepared) → IfOk result (IsPreparedFor known statement reply_old reply_new)
@@ -348,6 +355,19 @@ no_answer : (s : State) (statement : Statement) → AsksFiles s statement → (s
 no_answer s ShowFiles asks = rw asks refl
 no_answer s statement asks = absurd asks
 
+-- what a statement on a cursor answers comes later, and the state is left
+opened_step : (s : State) (statement : Statement) (asked : OpenAsked) → OpensCursor s statement asked → StatementStepsTo s statement s [] [] (outcome_of None)
+opened_step s (OpenCursor cursor select) asked opens = takes s (OpenCursor cursor select) s [] [] (outcome_of None) opens.taken refl refl refl
+opened_step s statement asked opens = absurd opens
+
+fetched_step : (s : State) (statement : Statement) (asked : FetchAsked) → FetchesRows s statement asked → StatementStepsTo s statement s [] [] (outcome_of None)
+fetched_step s (Fetch cursor count) asked fetches = takes s (Fetch cursor count) s [] [] (outcome_of None) fetches.0 refl refl refl
+fetched_step s statement asked fetches = absurd fetches
+
+closed_step : (s : State) (statement : Statement) (name : List ℕ) → ClosesCursor s statement name → StatementStepsTo s statement s [] [] (outcome_of None)
+closed_step s (CloseCursor cursor) name closes = takes s (CloseCursor cursor) s [] [] (outcome_of None) closes.0 refl refl refl
+closed_step s statement name closes = absurd closes
+
 flush_there : (s : State) (statement : Statement) (table : ℕ) → FlushesTable s statement table → HasTable s table
 flush_there s (Flush name) table flushes = flushes.2
 flush_there s statement table flushes = absurd flushes
@@ -376,6 +396,12 @@ prepares s piece statement reply_old reply ListsFiles says well empty asks = (
   asks.0.reply_is ∙ ap (λ (front : List ℕ). front ++ (step_as s (Says statement)).reply) empty ∙ no_answer s statement asks.1,
   (statement, says, well, asks.1),
 )
+prepares s piece statement reply_old reply (Opens asked) says well empty asks =
+    (steps s piece statement s [] [] (outcome_of None) says refl (opened_step s statement asked asks.1), asks.0 ∙ empty, (statement, says, well, asks.1))
+prepares s piece statement reply_old reply (Fetches asked) says well empty asks =
+    (steps s piece statement s [] [] (outcome_of None) says refl (fetched_step s statement asked asks.1), asks.0 ∙ empty, (statement, says, well, asks.1))
+prepares s piece statement reply_old reply (Closes cursor) says well empty asks =
+    (steps s piece statement s [] [] (outcome_of None) says refl (closed_step s statement cursor asks.1), asks.0 ∙ empty, (statement, says, well, asks.1))
 
 pub piece_prepares : {E : Type 0} (known : Known) (piece : Piece) (statement : Statement) (reply_old reply : List ℕ) (result : Result Prepared E) → read piece ≡ Says statement → IsWellFormed statement → reply_old ≡ []
     → IfOk result (IsPreparedFor known statement reply_old reply) → IfOk result (λ prepared. (s : State) → IsStateOf known s → Prepares s piece reply prepared)
@@ -406,6 +432,9 @@ prepared_can s statement reply_old reply (Flushes table) well asks = flush_there
 prepared_can s statement reply_old reply (Selects rows) well asks = tt
 prepared_can s statement reply_old reply (Traces on) well asks = tt
 prepared_can s statement reply_old reply ListsFiles well asks = tt
+prepared_can s statement reply_old reply (Opens asked) well asks = tt
+prepared_can s statement reply_old reply (Fetches asked) well asks = tt
+prepared_can s statement reply_old reply (Closes cursor) well asks = tt
 
 pub can_be_done : {E : Type 0} (known : Known) (statement : Statement) (reply_old reply : List ℕ) (result : Result Prepared E) → IsWellFormed statement
     → IfOk result (IsPreparedFor known statement reply_old reply) → IfOk result (λ prepared. (s : State) → IsStateOf known s → CanBeDone s prepared)
@@ -450,6 +479,9 @@ query_of known statement reply_old reply (Writes w) asks select = absurd select
 query_of known statement reply_old reply (Flushes table) asks select = absurd select
 query_of known statement reply_old reply (Traces on) asks select = absurd select
 query_of known statement reply_old reply ListsFiles asks select = absurd select
+query_of known statement reply_old reply (Opens asked) asks select = absurd select
+query_of known statement reply_old reply (Fetches asked) asks select = absurd select
+query_of known statement reply_old reply (Closes cursor) asks select = absurd select
 
 pub piece_selects : {E : Type 0} (known : Known) (piece : Piece) (statement : Statement) (reply_old reply : List ℕ) (result : Result Prepared E) → read piece ≡ Says statement
     → IfOk result (IsPreparedFor known statement reply_old reply) → IfOk result (λ prepared. IsSelect prepared → IsQuery (read piece))
@@ -471,6 +503,9 @@ listing_of known statement reply_old reply (Writes w) asks lists = absurd lists
 listing_of known statement reply_old reply (Flushes table) asks lists = absurd lists
 listing_of known statement reply_old reply (Selects rows) asks lists = absurd lists
 listing_of known statement reply_old reply (Traces on) asks lists = absurd lists
+listing_of known statement reply_old reply (Opens asked) asks lists = absurd lists
+listing_of known statement reply_old reply (Fetches asked) asks lists = absurd lists
+listing_of known statement reply_old reply (Closes cursor) asks lists = absurd lists
 
 pub piece_lists : {E : Type 0} (known : Known) (piece : Piece) (statement : Statement) (reply_old reply : List ℕ) (result : Result Prepared E) → read piece ≡ Says statement
     → IfOk result (IsPreparedFor known statement reply_old reply) → IfOk result (λ prepared. IsListing prepared → IsShowFiles (read piece))

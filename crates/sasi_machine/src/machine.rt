@@ -131,7 +131,11 @@ impl Machine {
                 self.print(&rows, kit, reply)?;
                 Ok(Outcome::Done)
             }
-            Prepared::Open(asked) => Ok(reply_refusal(reply, open_refusal(&asked))?),
+            Prepared::Open(asked) => {
+                let refusal = open_refusal(&asked);
+                drop(asked);
+                Ok(reply_refusal(reply, refusal)?)
+            }
             Prepared::Fetch(asked) => Ok(reply_refusal(reply, Refusal::NoCursor(asked.cursor))?),
             Prepared::Close(cursor) => Ok(reply_refusal(reply, Refusal::NoCursor(cursor))?),
         }

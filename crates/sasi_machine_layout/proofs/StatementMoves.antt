@@ -4,7 +4,7 @@ use Rattle.std.specs.Prelude.{codes, if◌then◌else◌}
 use Rattle.std.specs.Map.{lookup}
 use Rattle.std.specs.Option.{option_map_or}
 use Rattle.sasi_types.specs.declared.statement.Statement.{Statement}
-use Rattle.sasi_types.specs.declared.statement.Statement.TheVariants.{CreateTable, CreateIndex, Insert, Update, Delete, Flush, Query, ShowFiles, Trace}
+use Rattle.sasi_types.specs.declared.statement.Statement.TheVariants.{CreateTable, CreateIndex, Fetch, Insert, OpenCursor, Update, Delete, Flush, Query, ShowFiles, Trace}
 use Rattle.sasi_layout.specs.Layout.{Layout, state_of}
 use Rattle.sasi_layout.specs.Statements.{known_in, moves_asked}
 use Rattle.sasi_layout.proofs.StatementLaws.{known_is}
@@ -32,6 +32,8 @@ no_change known (Flush table) is = cc
 no_change known (Query select) is = asked_none (lookup (λ applies. applies) (rules known (Query select)))
 no_change known (Trace on) is = asked_none (lookup (λ applies. applies) (rules known (Trace on)))
 no_change known ShowFiles is = asked_none (lookup (λ applies. applies) (rules known ShowFiles))
+no_change known (OpenCursor cursor select) is = asked_none (lookup (λ applies. applies) (rules known (OpenCursor cursor select)))
+no_change known (Fetch cursor count) is = asked_none (lookup (λ applies. applies) (rules known (Fetch cursor count)))
 no_change known s is = refl
 
 pub no_moves : (l : Layout) (s : Statement) → asks_change s ≡ false → statement_moves l s ≡ []

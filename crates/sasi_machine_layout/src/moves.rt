@@ -66,8 +66,12 @@ fn make(contents: &mut Contents, prepared: Prepared) -> Result<(), AllocError>
         Prepared::Define(index) => define(contents, index),
         Prepared::Write(mutation) => write(contents, mutation),
         Prepared::Flush(table) => flush_unless_empty(contents, table),
-        Prepared::Answered(_) | Prepared::Select(_) | Prepared::Trace(_) | Prepared::Files => {
-            Ok(())
-        }
+        Prepared::Answered(_)
+        | Prepared::Select(_)
+        | Prepared::Trace(_)
+        | Prepared::Files
+        | Prepared::Open(_)
+        | Prepared::Fetch(_)
+        | Prepared::Close(_) => Ok(()),
     }
 }

@@ -100,6 +100,56 @@ fn rows_in_memory_end_at_the_limit(rt: HostRuntime) {
     check_limit(&rt, &mut machine, &mut reply);
 }
 
+// An OPEN whose SELECT has 33 relations.
+const MANY_RELATIONS: &[u8] = b"OPEN c AS SELECT k FROM t WHERE \
+    a>0 AND a>0 AND a>0 AND a>0 AND a>0 AND a>0 AND a>0 AND a>0 AND a>0 AND a>0 AND a>0 AND \
+    a>0 AND a>0 AND a>0 AND a>0 AND a>0 AND a>0 AND a>0 AND a>0 AND a>0 AND a>0 AND a>0 AND \
+    a>0 AND a>0 AND a>0 AND a>0 AND a>0 AND a>0 AND a>0 AND a>0 AND a>0 AND a>0 AND a>0 ALLOW FILTERING;";
+
+/// Statements on cursors, of which none is open. The rules of their SELECT and of the number of rows come before those of cursors.
+fn check_cursors(rt: &impl Abort, machine: &mut Machine, reply: &mut Reply) {
+    let create = b"CREATE TABLE t (k text PRIMARY KEY, a int);";
+    check_step(rt, machine, reply, create, Outcome::Done, "ok\n");
+    for (piece, number, want) in [
+        (
+            b"OPEN c AS SELECT * FROM u;".as_slice(),
+            4,
+            "error 4 NoTable u\n",
+        ),
+        (
+            b"OPEN c AS SELECT * FROM t LIMIT 0;".as_slice(),
+            9,
+            "error 9 NumberRange LIMIT\n",
+        ),
+        (MANY_RELATIONS, 24, "error 24 TooMany relations 32\n"),
+        (
+            b"OPEN c AS SELECT * FROM t;".as_slice(),
+            90,
+            "error 90 NotBuilt\n",
+        ),
+        (
+            b"FETCH 0 FROM c;".as_slice(),
+            9,
+            "error 9 NumberRange FETCH\n",
+        ),
+        (
+            b"FETCH 1 FROM c;".as_slice(),
+            23,
+            "error 23 NoCursor c\n",
+        ),
+        (b"CLOSE c;".as_slice(), 23, "error 23 NoCursor c\n"),
+    ] {
+        check_step(rt, machine, reply, piece, Outcome::Refused(number), want);
+    }
+}
+
+#[test]
+fn cursors_in_memory_are_not_there(rt: HostRuntime) {
+    let mut machine = Machine::new(rt.alloc(), Partitioner::Lead8);
+    let mut reply = Reply::new(rt.alloc());
+    check_cursors(&rt, &mut machine, &mut reply);
+}
+
 #[test]
 fn piece_that_is_not_utf8_is_refused_at_its_offset(rt: HostRuntime) {
     let mut machine = Machine::new(rt.alloc(), Partitioner::Lead8);

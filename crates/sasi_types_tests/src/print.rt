@@ -52,10 +52,14 @@ fn refusal_has_its_number_its_name_and_its_detail(rt: HostRuntime) {
     refusal(&mut reply, 19, "").expect(&rt, "memory");
     refusal(&mut reply, 24, "relations 32").expect(&rt, "memory");
     refusal_about(&mut reply, 4, b"users").expect(&rt, "memory");
+    refusal_about(&mut reply, 22, b"c").expect(&rt, "memory");
+    refusal_about(&mut reply, 23, b"c").expect(&rt, "memory");
     refusal_at(&mut reply, 1, 12).expect(&rt, "memory");
     let want = "error 19 NeedsFiltering
 error 24 TooMany relations 32
 error 4 NoTable users
+error 22 CursorExists c
+error 23 NoCursor c
 error 1 Syntax at 12
 ";
     check_lines(&rt, &reply, want);

@@ -29,3 +29,14 @@ returns-in-ShowFiles c =
     let known = known_by c.args.schema.now c.args.builder.now.max_timestamp in
     subst (λ (statement : Statement). IsPreparedFor known statement c.args.reply.now c.args.reply.now c.prepare_files.result) (sym c.in-ShowFiles.is)
     (record { now = c.prepare_files.ensures known c.args.reply.now; timeless = λ timeless other. c.prepare_files.ensures (record known { max_timestamp = other }) c.args.reply.now })
+
+pub returns-in-Fetch : goal.returns-in-Fetch
+returns-in-Fetch c =
+    subst (λ (statement : Statement). IfOk c.prepare_fetch.result (IsPreparedFor (known_by c.args.schema.now c.args.builder.now.max_timestamp) statement c.args.reply.now c.prepare_fetch.new.reply)) (sym c.in-Fetch.is)
+    (for_every (known_by c.args.schema.now c.args.builder.now.max_timestamp) _ c.args.reply.now c.prepare_fetch.new.reply c.prepare_fetch.result c.prepare_fetch.ensures)
+
+pub returns-in-CloseCursor : goal.returns-in-CloseCursor
+returns-in-CloseCursor c =
+    let known = known_by c.args.schema.now c.args.builder.now.max_timestamp in
+    subst (λ (statement : Statement). IsPreparedFor known statement c.args.reply.now c.args.reply.now c.prepare_close.result) (sym c.in-CloseCursor.is)
+    (record { now = c.prepare_close.ensures known c.args.reply.now; timeless = λ timeless other. c.prepare_close.ensures (record known { max_timestamp = other }) c.args.reply.now })
