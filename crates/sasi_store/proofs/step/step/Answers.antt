@@ -329,13 +329,13 @@ returns-in_ok-show_files-in-Files-clause-steps g c =
 
 -- ---- statements on cursors
 
-pub returns-in_err-refuse-in-Open-clause-steps : goal.returns-in_err-refuse-in-Open-clause-steps
-returns-in_err-refuse-in-Open-clause-steps g c =
-    let p = err_from_is_err_and c.from_residual-in_err-refuse-in-Open.result c.from_residual-in_err-refuse-in-Open.ensures.1 in
-    rw (p.1, p.2) (step_full (map (λ b. (goal.Analyzer-dyn g (b.vtable, b.value)).kind b.value) c.args.kit.now.objects.items) (g.H.Host.view c.args.host.now) (g.met.H.Host.sound c.args.host.now) (memory_of c.args.parts.now) (piece_of c.args.end c.args.piece.now) c.refuse.new.reply)
+pub returns-in_err-reply_refusal-in-Open-clause-steps : goal.returns-in_err-reply_refusal-in-Open-clause-steps
+returns-in_err-reply_refusal-in-Open-clause-steps g c =
+    let p = err_from_is_err_and c.from_residual-in_err-reply_refusal-in-Open.result c.from_residual-in_err-reply_refusal-in-Open.ensures.1 in
+    rw (p.1, p.2) (step_full (map (λ b. (goal.Analyzer-dyn g (b.vtable, b.value)).kind b.value) c.args.kit.now.objects.items) (g.H.Host.view c.args.host.now) (g.met.H.Host.sound c.args.host.now) (memory_of c.args.parts.now) (piece_of c.args.end c.args.piece.now) c.reply_refusal.new.reply)
 
-pub returns-in_ok-refuse-in-Open-clause-steps : goal.returns-in_ok-refuse-in-Open-clause-steps
-returns-in_ok-refuse-in-Open-clause-steps g c =
+pub returns-in_ok-reply_refusal-in-Open-clause-steps : goal.returns-in_ok-reply_refusal-in-Open-clause-steps
+returns-in_ok-reply_refusal-in-Open-clause-steps g c =
     let v = g.H.Host.view c.args.host.now in
     let parts = c.args.parts.now in
     let piece = piece_of c.args.end c.args.piece.now in
@@ -343,16 +343,16 @@ returns-in_ok-refuse-in-Open-clause-steps g c =
     let all : HasPrepared parts piece c.prepare.new.reply c.in_ok-outcome.field-0 = record { asked = e.asked; prepares = e.prepares; timeless = e.timeless; selects = e.selects } in
     let has = subst (HasPrepared parts piece c.prepare.new.reply) c.in-Open.is all in
     let prepared = has.timeless tt (blank v parts c.requires.ready) (blank_definitions v parts c.requires.ready) in
-    step_opened (map (λ b. (goal.Analyzer-dyn g (b.vtable, b.value)).kind b.value) c.args.kit.now.objects.items) v (g.met.H.Host.sound c.args.host.now) (memory_of parts) piece c.prepare.new.reply c.refuse.new.reply _ c.requires.ready has.asked prepared.1
-    c.in-Open.asked _ c.open_refusal.ensures has.prepares c.in_ok-refuse-in-Open.ensures.reply c.in_ok-refuse-in-Open.ensures.outcome
+    step_opened (map (λ b. (goal.Analyzer-dyn g (b.vtable, b.value)).kind b.value) c.args.kit.now.objects.items) v (g.met.H.Host.sound c.args.host.now) (memory_of parts) piece c.prepare.new.reply c.reply_refusal.new.reply _ c.requires.ready has.asked prepared.1
+    c.in-Open.asked _ c.open_refusal.ensures has.prepares c.in_ok-reply_refusal-in-Open.ensures.reply c.in_ok-reply_refusal-in-Open.ensures.outcome
 
-pub returns-in_err-refuse-in-Fetch-clause-steps : goal.returns-in_err-refuse-in-Fetch-clause-steps
-returns-in_err-refuse-in-Fetch-clause-steps g c =
-    let p = err_from_is_err_and c.from_residual-in_err-refuse-in-Fetch.result c.from_residual-in_err-refuse-in-Fetch.ensures.1 in
-    rw (p.1, p.2) (step_full (map (λ b. (goal.Analyzer-dyn g (b.vtable, b.value)).kind b.value) c.args.kit.now.objects.items) (g.H.Host.view c.args.host.now) (g.met.H.Host.sound c.args.host.now) (memory_of c.args.parts.now) (piece_of c.args.end c.args.piece.now) c.refuse-in-Fetch.new.reply)
+pub returns-in_err-reply_refusal-in-Fetch-clause-steps : goal.returns-in_err-reply_refusal-in-Fetch-clause-steps
+returns-in_err-reply_refusal-in-Fetch-clause-steps g c =
+    let p = err_from_is_err_and c.from_residual-in_err-reply_refusal-in-Fetch.result c.from_residual-in_err-reply_refusal-in-Fetch.ensures.1 in
+    rw (p.1, p.2) (step_full (map (λ b. (goal.Analyzer-dyn g (b.vtable, b.value)).kind b.value) c.args.kit.now.objects.items) (g.H.Host.view c.args.host.now) (g.met.H.Host.sound c.args.host.now) (memory_of c.args.parts.now) (piece_of c.args.end c.args.piece.now) c.reply_refusal-in-Fetch.new.reply)
 
-pub returns-in_ok-refuse-in-Fetch-clause-steps : goal.returns-in_ok-refuse-in-Fetch-clause-steps
-returns-in_ok-refuse-in-Fetch-clause-steps g c =
+pub returns-in_ok-reply_refusal-in-Fetch-clause-steps : goal.returns-in_ok-reply_refusal-in-Fetch-clause-steps
+returns-in_ok-reply_refusal-in-Fetch-clause-steps g c =
     let v = g.H.Host.view c.args.host.now in
     let parts = c.args.parts.now in
     let piece = piece_of c.args.end c.args.piece.now in
@@ -360,16 +360,16 @@ returns-in_ok-refuse-in-Fetch-clause-steps g c =
     let all : HasPrepared parts piece c.prepare.new.reply c.in_ok-outcome.field-0 = record { asked = e.asked; prepares = e.prepares; timeless = e.timeless; selects = e.selects } in
     let has = subst (HasPrepared parts piece c.prepare.new.reply) c.in-Fetch.is all in
     let prepared = has.timeless tt (blank v parts c.requires.ready) (blank_definitions v parts c.requires.ready) in
-    step_fetched (map (λ b. (goal.Analyzer-dyn g (b.vtable, b.value)).kind b.value) c.args.kit.now.objects.items) v (g.met.H.Host.sound c.args.host.now) (memory_of parts) piece c.prepare.new.reply c.refuse-in-Fetch.new.reply _ c.requires.ready has.asked prepared.1
-    c.in-Fetch.asked has.prepares c.in_ok-refuse-in-Fetch.ensures.reply c.in_ok-refuse-in-Fetch.ensures.outcome
+    step_fetched (map (λ b. (goal.Analyzer-dyn g (b.vtable, b.value)).kind b.value) c.args.kit.now.objects.items) v (g.met.H.Host.sound c.args.host.now) (memory_of parts) piece c.prepare.new.reply c.reply_refusal-in-Fetch.new.reply _ c.requires.ready has.asked prepared.1
+    c.in-Fetch.asked has.prepares c.in_ok-reply_refusal-in-Fetch.ensures.reply c.in_ok-reply_refusal-in-Fetch.ensures.outcome
 
-pub returns-in_err-refuse-in-Close-clause-steps : goal.returns-in_err-refuse-in-Close-clause-steps
-returns-in_err-refuse-in-Close-clause-steps g c =
-    let p = err_from_is_err_and c.from_residual-in_err-refuse-in-Close.result c.from_residual-in_err-refuse-in-Close.ensures.1 in
-    rw (p.1, p.2) (step_full (map (λ b. (goal.Analyzer-dyn g (b.vtable, b.value)).kind b.value) c.args.kit.now.objects.items) (g.H.Host.view c.args.host.now) (g.met.H.Host.sound c.args.host.now) (memory_of c.args.parts.now) (piece_of c.args.end c.args.piece.now) c.refuse-in-Close.new.reply)
+pub returns-in_err-reply_refusal-in-Close-clause-steps : goal.returns-in_err-reply_refusal-in-Close-clause-steps
+returns-in_err-reply_refusal-in-Close-clause-steps g c =
+    let p = err_from_is_err_and c.from_residual-in_err-reply_refusal-in-Close.result c.from_residual-in_err-reply_refusal-in-Close.ensures.1 in
+    rw (p.1, p.2) (step_full (map (λ b. (goal.Analyzer-dyn g (b.vtable, b.value)).kind b.value) c.args.kit.now.objects.items) (g.H.Host.view c.args.host.now) (g.met.H.Host.sound c.args.host.now) (memory_of c.args.parts.now) (piece_of c.args.end c.args.piece.now) c.reply_refusal-in-Close.new.reply)
 
-pub returns-in_ok-refuse-in-Close-clause-steps : goal.returns-in_ok-refuse-in-Close-clause-steps
-returns-in_ok-refuse-in-Close-clause-steps g c =
+pub returns-in_ok-reply_refusal-in-Close-clause-steps : goal.returns-in_ok-reply_refusal-in-Close-clause-steps
+returns-in_ok-reply_refusal-in-Close-clause-steps g c =
     let v = g.H.Host.view c.args.host.now in
     let parts = c.args.parts.now in
     let piece = piece_of c.args.end c.args.piece.now in
@@ -377,5 +377,5 @@ returns-in_ok-refuse-in-Close-clause-steps g c =
     let all : HasPrepared parts piece c.prepare.new.reply c.in_ok-outcome.field-0 = record { asked = e.asked; prepares = e.prepares; timeless = e.timeless; selects = e.selects } in
     let has = subst (HasPrepared parts piece c.prepare.new.reply) c.in-Close.is all in
     let prepared = has.timeless tt (blank v parts c.requires.ready) (blank_definitions v parts c.requires.ready) in
-    step_closed (map (λ b. (goal.Analyzer-dyn g (b.vtable, b.value)).kind b.value) c.args.kit.now.objects.items) v (g.met.H.Host.sound c.args.host.now) (memory_of parts) piece c.prepare.new.reply c.refuse-in-Close.new.reply _ c.requires.ready has.asked prepared.1
-    c.in-Close.cursor has.prepares c.in_ok-refuse-in-Close.ensures.reply c.in_ok-refuse-in-Close.ensures.outcome
+    step_closed (map (λ b. (goal.Analyzer-dyn g (b.vtable, b.value)).kind b.value) c.args.kit.now.objects.items) v (g.met.H.Host.sound c.args.host.now) (memory_of parts) piece c.prepare.new.reply c.reply_refusal-in-Close.new.reply _ c.requires.ready has.asked prepared.1
+    c.in-Close.cursor has.prepares c.in_ok-reply_refusal-in-Close.ensures.reply c.in_ok-reply_refusal-in-Close.ensures.outcome
