@@ -17,8 +17,10 @@ use Rattle.sasi_layout.proofs.StatementLaws.{known_is}
 use Rattle.sasi_model.specs.Pieces.{Piece}
 use Rattle.sasi_model.specs.Asked.{Asked, asks, class_needed}
 use Rattle.sasi_model.specs.Refusals.{Known, Refusal}
+use Rattle.sasi_model.specs.Parsers.{grammar_parser}
+use Rattle.sasi_model.specs.Sessions.{SessionState, refused_by, session_by, sessions_by}
 use Rattle.sasi_model.specs.State.{State}
-use Rattle.sasi_model.specs.Step.{state_after, step}
+use Rattle.sasi_model.specs.Step.{state_after}
 use Rattle.sasi_cql.specs.SplitterState.{resume, behind}
 use Rattle.sasi_machine.specs.declared.outcome.Outcome.{Outcome}
 use Rattle.sasi_machine.specs.Outcome.{outcome_of}
@@ -96,12 +98,12 @@ stopped_moving {kinds} (fault.NumbersSpent kind) session a b piece failed w serv
 }
 
 -- nothing of the piece was emitted
-stopped_silent : (f : StepFault) (s : State) (piece : Piece) → EmittedButStored (stop_of f) s [] (piece ∷ []) []
-stopped_silent fault.Failed s piece = refl
-stopped_silent fault.OutOfMemory s piece = refl
-stopped_silent (fault.Damaged damage) s piece = refl
-stopped_silent (fault.AnalyzerMissing class) s piece = refl
-stopped_silent (fault.NumbersSpent kind) s piece = (piece, refl, refl)
+stopped_silent : (f : StepFault) (x : SessionState) (s : State) (piece : Piece) → EmittedButStored (stop_of f) x s [] (piece ∷ []) []
+stopped_silent fault.Failed x s piece = refl
+stopped_silent fault.OutOfMemory x s piece = refl
+stopped_silent (fault.Damaged damage) x s piece = refl
+stopped_silent (fault.AnalyzerMissing class) x s piece = refl
+stopped_silent (fault.NumbersSpent kind) x s piece = (piece, refl, refl)
 
 -- no analyzer is of the class that is missing
 missing_lacks : (kinds : List Class) (f : StepFault) (asked : Asked) → OnMissing (LacksNeeded kinds asked) f → LacksAtStop kinds (stop_of f)
@@ -115,7 +117,7 @@ missing_lacks kinds (fault.AnalyzerMissing class) asked lacks = lacks.lacks
 pub fails_moving : {kinds : List Class} (f : StepFault) (session : Session) (a b : View) (piece : Piece) → StepFailed kinds f session a b piece
     → FailsCrashSafe kinds (stop_of f) session a b (piece ∷ [])
 fails_moving f session a b piece failed = record {
-  anywhere = λ s of. record { shown = []; emitted = unmoved a b failed.change.emitted; replies = stopped_silent f s piece };
+  anywhere = λ x s of. record { shown = []; emitted = unmoved a b failed.change.emitted; replies = stopped_silent f x s piece };
   stopped = λ w serves. stopped_moving f session a b piece failed w serves;
   lacks = missing_lacks _ f (asks (known_in_memory session.store.memory) piece) failed.lacks;
 }
@@ -125,7 +127,7 @@ pub record StepDone (kinds : List Class) (session : Session) (later : StoreView)
   pub change : Changes AnyFolderChange a b
   pub moments : (w : World) → ServesWorld a session.store.memory session.store.trace w → Changes (λ x y. Between w.layout (steps.moves w piece) y) a b
   pub answers : (w : World) → ServesWorld a session.store.memory session.store.trace w → Answered b later.memory later.trace w piece reply outcome
-  pub anywhere : (s : State) → IsOfState session.store s → AnsweredButRows later.memory s piece reply outcome
+  pub anywhere : (x : SessionState) (s : State) → IsOfState session.store x s → AnsweredButRows later.memory x s piece reply outcome
   pub analyzer : HasNeeded kinds (class_needed (asks (known_in_memory session.store.memory) piece))
 
 module _ {kinds : List Class} (session : Session) (later : StoreView) (a b d : View) (piece : Piece) (reply bytes : List ℕ) (outcome : Outcome)
@@ -138,8 +140,8 @@ module _ {kinds : List Class} (session : Session) (later : StoreView) (a b d : V
   -- the reply was not emitted whole
   pub fails_shown : d.emits ≡ counted b.emits → FailsCrashSafe kinds Output session a d (piece ∷ [])
   fails_shown once = record {
-    anywhere = λ s of.
-        let is = done.anywhere s of in
+    anywhere = λ x s of.
+        let is = done.anywhere x s of in
         record {
           shown = emits.front;
           emitted = subst (λ (l : Option (List ℕ)). Appends l d.emitted emits.front) done.change.emitted emits.out;
@@ -172,23 +174,23 @@ module _ {kinds : List Class} (session : Session) (later : StoreView) (a b d : V
       → new.splitter ≡ session.splitter → IsReady b later → AllOut bytes b d → d.emits ≡ emits_after b.emits bytes → AnswersCrashSafe kinds session new a d piece
   answers_on new store_is small count reading ready all call = record {
     reading = reading;
-    anywhere = λ s of.
-        let is = done.anywhere s of in
+    anywhere = λ x s of.
+        let is = done.anywhere x s of in
         record {
-          state = subst (λ (k : StoreView). IsOfState k (step s piece).state) (sym store_is) is.state_is;
+          state = subst (λ (k : StoreView). IsOfState k (session_by grammar_parser x s piece) (state_after s (piece ∷ []))) (sym store_is) (record { known = is.state_is; cursors = is.cursors_are });
           shown = bytes;
           emitted = subst (λ (l : Option (List ℕ)). Appends l d.emitted bytes) done.change.emitted all;
           replies = (bytes, [], sym (append-nil bytes), (λ none. same ∙ is.reply_is none), refl);
-          count = count ∙ ap (counted_outcome session.refused) is.outcome_is ∙ counts session.refused (step s piece).refused small;
+          count = count ∙ ap (counted_outcome session.refused) is.outcome_is ∙ counts session.refused (refused_by grammar_parser x s piece) small;
         };
     ready = rw store_is (ready_still b d later emits.files emits.image ready);
     ran = λ w serves.
         (let is = done.answers w serves in
         record {
-          serves = rw store_is (record { serves = serves_still b d later.memory _ emits.files emits.image is.serves.serves; trace_is = is.serves.trace_is });
+          serves = rw store_is (record { serves = serves_still b d later.memory _ emits.files emits.image is.serves.serves; trace_is = is.serves.trace_is; cursors_are = is.serves.cursors_are });
           shown = subst (λ (r : List ℕ). Appends a.emitted d.emitted r) (same ∙ is.reply_is ∙ sym (append-nil (steps.reply w piece)))
               (subst (λ (l : Option (List ℕ)). Appends l d.emitted bytes) done.change.emitted all);
-          count = count ∙ ap (counted_outcome session.refused) is.outcome_is ∙ counts session.refused (step (state_of w.layout) piece).refused small;
+          count = count ∙ ap (counted_outcome session.refused) is.outcome_is ∙ counts session.refused (refused_by grammar_parser w.session (state_of w.layout) piece) small;
           crashes = crashes w serves;
           emits = makes_alone (emits_of (steps.reply w piece)) a.emits d.emits
               (makes_reply a.emits d.emits (steps.reply w piece) (emits_reply a.emits b.emits d.emits bytes (steps.reply w piece) done.change.emits (same ∙ is.reply_is) call));
@@ -210,7 +212,7 @@ pub feeds_no_end : {kinds : List Class} (old new : Session) (a : View) (byte : �
     → FeedsCrashSafe kinds old new a a (byte ∷ [])
 feeds_no_end old new a byte ready small next store count = record {
   feeds = record { done = []; reading = next };
-  anywhere = λ s of. ran_nothing_but s old new a small store count of;
+  anywhere = λ x s of. ran_nothing_but x s old new a small store count of;
   ready = rw store ready;
   ran = λ w serves. ran_nothing w old new a small store count serves;
 }
@@ -219,15 +221,15 @@ feeds_no_end old new a byte ready small next store count = record {
 pub feeds_nothing : {kinds : List Class} (session : Session) (a : View) → IsReady a session.store → session.refused < 2 ^ 64 → FeedsCrashSafe kinds session session a a []
 feeds_nothing session a ready small = record {
   feeds = record { done = []; reading = λ left. refl };
-  anywhere = λ s of. ran_nothing_but s session session a small refl refl of;
+  anywhere = λ x s of. ran_nothing_but x s session session a small refl refl of;
   ready = ready;
   ran = λ w serves. ran_nothing w session session a small refl refl serves;
 }
 
 -- `stand` is the session with what the splitter has read since
 module _ (old stand : Session) (store : stand.store ≡ old.store) (count : stand.refused ≡ old.refused) where
-  stands_of : (s : State) → IsOfState old.store s → IsOfState stand.store s
-  stands_of s of = subst (λ (k : StoreView). IsOfState k s) (sym store) of
+  stands_of : (x : SessionState) (s : State) → IsOfState old.store x s → IsOfState stand.store x s
+  stands_of x s of = subst (λ (k : StoreView). IsOfState k x s) (sym store) of
 
   ran_from : {kinds : List Class} (w : World) (pieces : List Piece) (new : Session) (a b : View) → RanPieces kinds w pieces stand new a b → RanPieces kinds w pieces old new a b
   ran_from w pieces new a b ran = record {
@@ -245,7 +247,7 @@ module _ (old stand : Session) (store : stand.store ≡ old.store) (count : stan
       → FeedsCrashSafe kinds old new a b (byte ∷ [])
   feeds_answer new a b byte piece next answered = record {
     feeds = record { done = piece ∷ []; reading = λ left. rw answered.reading (next left) };
-    anywhere = λ s of. ran_from_but s (piece ∷ []) old stand new a b count (answered.anywhere s (stands_of s of));
+    anywhere = λ x s of. ran_from_but x s (piece ∷ []) old stand new a b count (answered.anywhere x s (stands_of x s of));
     ready = answered.ready;
     ran = λ w serves. ran_from w (piece ∷ []) new a b (answered.ran w (rw store serves));
   }
@@ -256,7 +258,7 @@ module _ (old stand : Session) (store : stand.store ≡ old.store) (count : stan
       → StopsCrashSafe kinds stop old a b (byte ∷ [])
   stops_at stop a b byte piece next fails = record {
     stops = record { taken = byte ∷ []; rest = []; parts = refl; done = []; next = piece ∷ []; stand = stand.splitter; reading = next };
-    anywhere = λ s of. fails.anywhere s (stands_of s of);
+    anywhere = λ x s of. fails.anywhere x s (stands_of x s of);
     stopped = λ w serves. fails.stopped w (rw store serves);
     lacks = fails.lacks;
   }
@@ -266,7 +268,7 @@ module _ (old stand : Session) (store : stand.store ≡ old.store) (count : stan
   pub finishes_answer : {kinds : List Class} (new : Session) (a b : View) (piece : Piece) → (resume old.splitter []).last ≡ piece ∷ [] → AnswersCrashSafe kinds stand new a b piece
       → FinishesCrashSafe kinds old new a b
   finishes_answer new a b piece last answered = record {
-    anywhere = λ s of. rw last (ran_from_but s (piece ∷ []) old stand new a b count (answered.anywhere s (stands_of s of)));
+    anywhere = λ x s of. rw last (ran_from_but x s (piece ∷ []) old stand new a b count (answered.anywhere x s (stands_of x s of)));
     ready = answered.ready;
     ran = λ w serves. rw last (ran_from w (piece ∷ []) new a b (answered.ran w (rw store serves)));
   }
@@ -274,7 +276,7 @@ module _ (old stand : Session) (store : stand.store ≡ old.store) (count : stan
   pub fails_last : {kinds : List Class} (stop : Stop) (a b : View) (piece : Piece) → (resume old.splitter []).last ≡ piece ∷ [] → FailsCrashSafe kinds stop stand a b (piece ∷ [])
       → FailsCrashSafe kinds stop old a b (resume old.splitter []).last
   fails_last stop a b piece last fails = record {
-    anywhere = λ s of. rw last (fails.anywhere s (stands_of s of));
+    anywhere = λ x s of. rw last (fails.anywhere x s (stands_of x s of));
     stopped = λ w serves. rw last (fails.stopped w (rw store serves));
     lacks = fails.lacks;
   }
@@ -282,7 +284,7 @@ module _ (old stand : Session) (store : stand.store ≡ old.store) (count : stan
 pub finishes_nothing : {kinds : List Class} (old new : Session) (a : View) → (resume old.splitter []).last ≡ [] → new.store ≡ old.store → new.refused ≡ old.refused
     → old.refused < 2 ^ 64 → IsReady a old.store → FinishesCrashSafe kinds old new a a
 finishes_nothing old new a last store count small ready = record {
-  anywhere = λ s of. rw last (ran_nothing_but s old new a small store count of);
+  anywhere = λ x s of. rw last (ran_nothing_but x s old new a small store count of);
   ready = rw store ready;
   ran = λ w serves. rw last (ran_nothing w old new a small store count serves);
 }
@@ -291,7 +293,7 @@ finishes_nothing old new a last store count small ready = record {
 pub stops_before : {kinds : List Class} (old : Session) (a : View) (bytes : List ℕ) → StopsCrashSafe kinds Memory old a a bytes
 stops_before old a bytes = record {
   stops = record { taken = []; rest = bytes; parts = refl; done = []; next = []; stand = old.splitter; reading = λ left. refl };
-  anywhere = λ s of. record { shown = []; emitted = appends_none a.emitted; replies = refl };
+  anywhere = λ x s of. record { shown = []; emitted = appends_none a.emitted; replies = refl };
   stopped = λ w serves. record { shown = appends_none a.emitted; crashes = leaves_nothing a w []; emits = makes_behind_none 0 a.emits a.emits (makes_none a.emits a.emits refl); supplied = tt };
   lacks = tt;
 }
@@ -305,9 +307,9 @@ feeds_both old mid new a b c xs ys t u = record {
     done = t.feeds.done ++ u.feeds.done;
     reading = reads_on old.splitter mid.splitter xs ys t.feeds.done t.feeds.reading new.splitter u.feeds.done u.feeds.reading;
   };
-  anywhere = λ s of.
-      let first = t.anywhere s of in
-      ran_both_but s t.feeds.done u.feeds.done old mid new a b c first (u.anywhere (state_after s t.feeds.done) first.state);
+  anywhere = λ x s of.
+      let first = t.anywhere x s of in
+      ran_both_but x s t.feeds.done u.feeds.done old mid new a b c first (u.anywhere (sessions_by grammar_parser x s t.feeds.done) (state_after s t.feeds.done) first.state);
   ready = u.ready;
   ran = λ w serves.
       (let first = t.ran w serves in
@@ -328,9 +330,9 @@ stops_later stop old mid a b c bytes xs ys rest t u parts = record {
     reading = λ left. reads_on old.splitter mid.splitter xs u.stops.taken t.feeds.done t.feeds.reading u.stops.stand (u.stops.done ++ u.stops.next) u.stops.reading left
         ∙ ap (λ ps. behind ps (resume u.stops.stand left)) (sym (append_assoc t.feeds.done u.stops.done u.stops.next));
   };
-  anywhere = λ s of.
-      let first = t.anywhere s of in
-      stopped_behind_but stop s t.feeds.done u.stops.done u.stops.next old mid a b c first (u.anywhere (state_after s t.feeds.done) first.state);
+  anywhere = λ x s of.
+      let first = t.anywhere x s of in
+      stopped_behind_but stop x s t.feeds.done u.stops.done u.stops.next old mid a b c first (u.anywhere (sessions_by grammar_parser x s t.feeds.done) (state_after s t.feeds.done) first.state);
   stopped = λ w serves.
       (let first = t.ran w serves in
       stopped_behind stop w t.feeds.done u.stops.done u.stops.next old mid a b c first (u.stopped (after_pieces steps w t.feeds.done) first.serves));

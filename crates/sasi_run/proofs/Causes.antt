@@ -15,6 +15,7 @@ use Rattle.sasi_layout.specs.Layout.{Layout}
 use Rattle.sasi_layout.specs.Shape.{ShapeOf}
 use Rattle.sasi_store.specs.Worlds.{ServesWorld, new_world}
 use Rattle.sasi_model.specs.Parsers.{grammar_parser}
+use Rattle.sasi_model.specs.Sessions.{new_session}
 use Rattle.sasi_model.specs.State.{State}
 use Rattle.sasi_recover.specs.Faults.{OnDiffers, OnMissing, OnOpenDamage, TellsDifference, TellsMissing}
 use Rattle.sasi_recover.specs.Promises.{LacksClass}
@@ -184,7 +185,7 @@ module _ (T : Type 0) (words : List (List ℕ)) (kinds : List Class) (script : S
 
 -- what an opening promises that succeeded
 pub record OpenDone (words : List (List ℕ)) (kinds : List Class) (store : StoreView) (a b : View) : Type 0 where
-  pub state : (s : State) × IsOfState store s
+  pub state : (s : State) × IsOfState store new_session s
   pub silent : b.emitted ≡ a.emitted
   pub none_out : b.emits ≡ a.emits
   pub opens : (folder : Folder) → a.files ≡ Some folder → CanOpen folder
@@ -204,9 +205,9 @@ pub causes_opened : {kinds : List Class} (words : List (List ℕ)) (status : Sta
 causes_opened words status script later a b c store are opened on calls reports of = record {
   usage = (λ is. absurd (of_store_used status of is), λ no. absurd (no are));
   calls = calls;
-  counts = λ folder l files shape. counts_opened folder status l script later a b c (shape_order (asked_by words) folder l shape) opened.silent opened.none_out (on.from (new_world l) (opened.serves folder l files shape));
+  counts = λ folder l files shape. counts_opened folder status l script later a b c (shape_order (asked_by words) folder l shape) opened.silent opened.none_out (on.from l (opened.serves folder l files shape));
   damaged = λ damage is. inr (reports damage is);
-  undamaged = λ folder l damage files shape. (on.from (new_world l) (opened.serves folder l files shape)).undamaged damage;
+  undamaged = λ folder l damage files shape. (on.from l (opened.serves folder l files shape)).undamaged damage;
   refused = λ folder files no. absurd (no (opened.opens folder files));
   differs = λ asked kept is. absurd (of_store_differs status asked kept of is);
   compares = λ folder asked kept files asks keeps other. absurd (opened.agrees folder asked kept files asks keeps other);

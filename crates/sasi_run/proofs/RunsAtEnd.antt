@@ -11,14 +11,15 @@ use Rattle.sasi_host.proofs.ContentLaws.{told_after}
 use Rattle.sasi_host.specs.Disk.{Changes}
 use Rattle.sasi_analyzers.specs.Kits.{has_class}
 use Rattle.sasi_layout.specs.Between.{Between}
-use Rattle.sasi_layout.specs.Layout.{state_of}
+use Rattle.sasi_layout.specs.Layout.{Layout, state_of}
 use Rattle.sasi_layout.specs.Running.{after_pieces, replies_of}
 use Rattle.sasi_layout.specs.Serving.{Ended, closed}
-use Rattle.sasi_store.specs.Worlds.{ServesWorld, World, steps}
+use Rattle.sasi_store.specs.Worlds.{ServesWorld, World, new_world, steps}
 use Rattle.sasi_model.specs.Pieces.{Piece, pieces, all_pieces}
 use Rattle.sasi_model.specs.Parsers.{grammar_parser}
+use Rattle.sasi_model.specs.Sessions.{new_session, refusals_by, sessions_by}
 use Rattle.sasi_model.specs.State.{State}
-use Rattle.sasi_model.specs.Step.{refusals, state_after}
+use Rattle.sasi_model.specs.Step.{state_after}
 use Rattle.sasi_cql.specs.SplitterState.{resume, behind}
 use Rattle.sasi_store.specs.StoreView.{IsReady}
 use Rattle.sasi_run.specs.Causes.{IsOfStore}
@@ -63,18 +64,19 @@ ends_fault from mid l l1 l2 a b n fresh on few kept =
     let first = answered_first from mid l l2 on.read fresh t consumed in
     record {
       anywhere = λ s of.
-          let ran = on.feeds.anywhere s of in
+          let ran = on.feeds.anywhere new_session s of in
           record {
             read = on.read;
             shown = ran.shown;
             consumed = consumed;
             emitted = ran.emitted;
             at_end = tt;
-            shows = record { whole = subst (λ (ps : List Piece). AreRepliesButStored grammar_parser s ps ran.shown) (sym (whole_now from mid on.read fresh t)) ran.replies; short = size };
+            shows = record { whole = subst (λ (ps : List Piece). AreRepliesButStored grammar_parser new_session s ps ran.shown) (sym (whole_now from mid on.read fresh t)) ran.replies; short = size };
             bounded = omega (arith, size);
           };
-      from = λ w serves.
-          (let ran = on.feeds.ran w serves in
+      from = λ start serves.
+          (let w : World = new_world start in
+          let ran = on.feeds.ran w serves in
           let all = all_pieces (script_of l on.read) in
           record {
             answers = answers_of steps w all;
@@ -116,10 +118,10 @@ ends_script {kinds} from mid to l l1 l2 a b c n none fresh on few ate empty end 
   consumed = consumes_none l l1 l2 on.read none on.consumed ate empty;
   short = omega (arith, on.length_is, few);
   at_end = end;
-  anywhere = λ s of.
-      let first = on.feeds.anywhere s of in
-      subst (λ (ps : List Piece). RanButStored s ps from to a c) (sym (all_now from mid on.read fresh on.feeds.feeds))
-      (ran_both_but s on.feeds.feeds.done (resume mid.splitter []).last from mid to a b c first (fin.anywhere (state_after s on.feeds.feeds.done) first.state));
+  anywhere = λ x s of.
+      let first = on.feeds.anywhere x s of in
+      subst (λ (ps : List Piece). RanButStored x s ps from to a c) (sym (all_now from mid on.read fresh on.feeds.feeds))
+      (ran_both_but x s on.feeds.feeds.done (resume mid.splitter []).last from mid to a b c first (fin.anywhere (sessions_by grammar_parser x s on.feeds.feeds.done) (state_after s on.feeds.feeds.done) first.state));
   ready = fin.ready;
   ran = λ w serves.
       (let first = on.feeds.ran w serves in
@@ -138,7 +140,10 @@ module _ {kinds : List Class} (from to : Session) (l l2 : Option (List ℕ)) (a 
   of_script : (P : List Piece → Type 0) → P (all_pieces on.read) → P (all_pieces (script_of l on.read))
   of_script P p = subst (λ (bytes : List ℕ). P (all_pieces bytes)) (sym (script_whole l l2 on.read on.consumed on.at_end)) p
 
-  module _ (w : World) (serves : ServesWorld a from.store.memory from.store.trace w) where
+  module _ (start : Layout) (serves : ServesWorld a from.store.memory from.store.trace (new_world start)) where
+    abbrev w : World
+    w = new_world start
+
     crashes : CrashLeavesPieces a c w (all_pieces on.read)
     crashes =
         let ran = on.ran w serves in
@@ -161,30 +166,30 @@ module _ {kinds : List Class} (from to : Session) (l l2 : Option (List ℕ)) (a 
     all_shown : (n : ℕ) → to.refused ≡ n → EmitsAllReplies grammar_parser (first_of all_answers) (state_of w.layout) on.read (replies_of steps w (all_pieces on.read)) n
     all_shown n is =
         let count : to.refused ≡ counted_by from.refused (refusals_of w (all_pieces on.read)) = (on.ran w serves).count in
-        let by_model : refusals_of w (all_pieces on.read) ≡ refusals (state_of w.layout) (all_pieces on.read) = refusals_are (all_pieces on.read) w serves.serves.in_order in
+        let by_model : refusals_of w (all_pieces on.read) ≡ refusals_by grammar_parser new_session (state_of w.layout) (all_pieces on.read) = refusals_are (all_pieces on.read) w serves.serves.in_order in
         record {
           all = first_shown steps w (all_pieces on.read) [] (all_pieces (script_of l on.read)) all_read_are;
           count = omega (arith, is, count, by_model, fresh.count);
           short = on.short;
         }
 
-  module _ (s : State) (of : IsOfState from.store s) where
-    abbrev all_read : (status : Status) → ReadsToEnd status l2 → EmitsByStatus grammar_parser (but_stored grammar_parser) status s (script_of l on.read) on.read (on.anywhere s of).shown
+  module _ (s : State) (of : IsOfState from.store new_session s) where
+    abbrev all_read : (status : Status) → ReadsToEnd status l2 → EmitsByStatus grammar_parser (but_stored grammar_parser) status s (script_of l on.read) on.read (on.anywhere new_session s of).shown
         → Runs grammar_parser (but_stored grammar_parser) status s l l2 a.emitted c.emitted
     all_read status end shows = record {
       read = on.read;
-      shown = (on.anywhere s of).shown;
+      shown = (on.anywhere new_session s of).shown;
       consumed = on.consumed;
-      emitted = appends_on (on.anywhere s of).shown (on.anywhere s of).emitted;
+      emitted = appends_on (on.anywhere new_session s of).shown (on.anywhere new_session s of).emitted;
       at_end = end;
       shows = shows;
       bounded = omega (arith, on.short);
     }
 
-    all_but_stored : (n : ℕ) → to.refused ≡ n → EmitsAllReplies grammar_parser (but_stored grammar_parser) s on.read (on.anywhere s of).shown n
+    all_but_stored : (n : ℕ) → to.refused ≡ n → EmitsAllReplies grammar_parser (but_stored grammar_parser) s on.read (on.anywhere new_session s of).shown n
     all_but_stored n is =
-        let count : to.refused ≡ counted_by from.refused (refusals s (all_pieces on.read)) = (on.anywhere s of).count in
-        record { all = (on.anywhere s of).replies; count = omega (arith, is, count, fresh.count); short = on.short }
+        let count : to.refused ≡ counted_by from.refused (refusals_by grammar_parser new_session s (all_pieces on.read)) = (on.anywhere new_session s of).count in
+        record { all = (on.anywhere new_session s of).replies; count = omega (arith, is, count, fresh.count); short = on.short }
 
   -- ---- the use of the store was ended
 
@@ -194,24 +199,25 @@ module _ {kinds : List Class} (from to : Session) (l l2 : Option (List ℕ)) (a 
         let zero_is : to.refused ≡ 0 = grind arith in
         record {
           anywhere = λ s of. all_read s of Done on.at_end (all_but_stored s of 0 zero_is);
-          from = λ w serves.
-              (let ran = on.ran w serves in
+          from = λ start serves.
+              (let w : World = new_world start in
+              let ran = on.ran w serves in
               record {
-                answers = all_answers w serves;
+                answers = all_answers start serves;
                 runs = record {
                   read = on.read;
                   shown = replies_of steps w (all_pieces on.read);
                   consumed = on.consumed;
                   emitted = appends_on _ ran.shown;
                   at_end = on.at_end;
-                  shows = all_shown w serves 0 zero_is;
+                  shows = all_shown start serves 0 zero_is;
                   bounded = omega (arith, on.short);
                 };
                 replied = refl;
-                crashes = of_script (λ ps. CrashLeavesPieces a c w ps) (crashes w serves);
+                crashes = of_script (λ ps. CrashLeavesPieces a c w ps) (crashes start serves);
                 told = λ _. told_after _ b c (moments (after_pieces steps w (all_pieces on.read)) ran.serves) ran.serves.serves.told;
                 ends = λ _. of_script (λ ps. Ended c (closed (after_pieces steps w ps).layout)) (ends (after_pieces steps w (all_pieces on.read)) ran.serves);
-                emits = record { answered = all_pieces on.read; by_status = refl; emits = emits_all w serves };
+                emits = record { answered = all_pieces on.read; by_status = refl; emits = emits_all start serves };
                 needs = of_script (λ ps. AreSupplied kinds w ps) ran.supplied;
                 undamaged = λ damage is. cc;
               });
@@ -221,24 +227,25 @@ module _ {kinds : List Class} (from to : Session) (l l2 : Option (List ℕ)) (a 
         let some : 0 < to.refused = grind arith in
         record {
           anywhere = λ s of. all_read s of (Refused to.refused) on.at_end (some, all_but_stored s of to.refused refl);
-          from = λ w serves.
-              (let ran = on.ran w serves in
+          from = λ start serves.
+              (let w : World = new_world start in
+              let ran = on.ran w serves in
               record {
-                answers = all_answers w serves;
+                answers = all_answers start serves;
                 runs = record {
                   read = on.read;
                   shown = replies_of steps w (all_pieces on.read);
                   consumed = on.consumed;
                   emitted = appends_on _ ran.shown;
                   at_end = on.at_end;
-                  shows = (some, all_shown w serves to.refused refl);
+                  shows = (some, all_shown start serves to.refused refl);
                   bounded = omega (arith, on.short);
                 };
                 replied = refl;
-                crashes = of_script (λ ps. CrashLeavesPieces a c w ps) (crashes w serves);
+                crashes = of_script (λ ps. CrashLeavesPieces a c w ps) (crashes start serves);
                 told = λ _. told_after _ b c (moments (after_pieces steps w (all_pieces on.read)) ran.serves) ran.serves.serves.told;
                 ends = λ _. of_script (λ ps. Ended c (closed (after_pieces steps w ps).layout)) (ends (after_pieces steps w (all_pieces on.read)) ran.serves);
-                emits = record { answered = all_pieces on.read; by_status = refl; emits = emits_all w serves };
+                emits = record { answered = all_pieces on.read; by_status = refl; emits = emits_all start serves };
                 needs = of_script (λ ps. AreSupplied kinds w ps) ran.supplied;
                 undamaged = λ damage is. cc;
               });
@@ -252,15 +259,16 @@ module _ {kinds : List Class} (from to : Session) (l l2 : Option (List ℕ)) (a 
   pub ends_unclosed : RunsCrashSafe kinds FolderFault from.store l l2 a c
   ends_unclosed = record {
     anywhere = λ s of.
-        let ran = on.anywhere s of in
+        let ran = on.anywhere new_session s of in
         stop_runs Disk s on.read l l2 a c (all_pieces on.read) [] on.consumed (omega (arith, on.short)) first (record { shown = ran.shown; emitted = appends_on ran.shown ran.emitted; replies = ran.replies });
-    from = λ w serves.
-        (let ran = on.ran w serves in
+    from = λ start serves.
+        (let w : World = new_world start in
+        let ran = on.ran w serves in
         stops_world w on.read (all_pieces on.read) [] l l2 a c on.consumed (omega (arith, on.short)) first Disk
         (record {
           shown = appends_on _ ran.shown;
-          crashes = subst (λ (ps : List Piece). CrashLeavesPieces a c w ps) (sym (append-nil (all_pieces on.read))) (crashes w serves);
-          emits = makes_alone _ a.emits c.emits (emits_in_all w serves);
+          crashes = subst (λ (ps : List Piece). CrashLeavesPieces a c w ps) (sym (append-nil (all_pieces on.read))) (crashes start serves);
+          emits = makes_alone _ a.emits c.emits (emits_in_all start serves);
           supplied = ran.supplied;
         }));
     lacks = λ class is. cc;
@@ -308,12 +316,13 @@ ends_last stop from mid l l1 l2 a b c n none fresh on few ate empty end fails =
     } in
     record {
       anywhere = λ s of.
-          let ran = on.feeds.anywhere s of in
+          let ran = on.feeds.anywhere new_session s of in
           stop_runs stop s on.read l l2 a c t.done last consumed bounded first
-          (subst (λ (ps : List Piece). StoppedButStored stop s ps last a c) (append-nil t.done)
-          (stopped_behind_but stop s t.done [] last from mid a b c ran (fails.anywhere (state_after s t.done) ran.state)));
-      from = λ w serves.
-          (let ran = on.feeds.ran w serves in
+          (subst (λ (ps : List Piece). StoppedButStored stop new_session s ps last a c) (append-nil t.done)
+          (stopped_behind_but stop new_session s t.done [] last from mid a b c ran (fails.anywhere (sessions_by grammar_parser new_session s t.done) (state_after s t.done) ran.state)));
+      from = λ start serves.
+          (let w : World = new_world start in
+          let ran = on.feeds.ran w serves in
           stops_world w on.read t.done last l l2 a c consumed bounded first stop
           (subst (λ (ps : List Piece). StoppedPieces _ stop w ps last a c) (append-nil t.done)
           (stopped_behind stop w t.done [] last from mid a b c ran (fails.stopped (after_pieces steps w t.done) ran.serves))));
@@ -340,18 +349,19 @@ ends_long from mid to l l1 l2 a b c n chunk part rest fresh on few ate small par
     let cut = ap all_pieces bytes ∙ all_behind _ t.feeds.done (resume to.splitter (rest ++ script.0)) (pieces_on from to (on.read ++ part) fresh t.feeds (rest ++ script.0)) in
     record {
       anywhere = λ s of.
-          let ran = t.anywhere s of in
+          let ran = t.anywhere new_session s of in
           record {
             read = read;
             shown = ran.shown;
             consumed = consumed;
             emitted = ran.emitted;
             at_end = tt;
-            shows = record { whole = subst (λ (ps : List Piece). AreRepliesButStored grammar_parser s ps ran.shown) (sym whole) ran.replies; long = long };
+            shows = record { whole = subst (λ (ps : List Piece). AreRepliesButStored grammar_parser new_session s ps ran.shown) (sym whole) ran.replies; long = long };
             bounded = bounded;
           };
-      from = λ w serves.
-          (let ran = t.ran w serves in
+      from = λ start serves.
+          (let w : World = new_world start in
+          let ran = t.ran w serves in
           let all = all_pieces (script_of l read) in
           record {
             answers = answers_of steps w all;
@@ -409,11 +419,12 @@ ends_within stop from mid l l1 l2 a b c n chunk part rest fresh on few ate small
     } in
     record {
       anywhere = λ s of.
-          let ran = on.feeds.anywhere s of in
+          let ran = on.feeds.anywhere new_session s of in
           stop_runs stop s read l l2 a c (t.done ++ u.stops.done) u.stops.next consumed bounded first
-          (stopped_behind_but stop s t.done u.stops.done u.stops.next from mid a b c ran (u.anywhere (state_after s t.done) ran.state));
-      from = λ w serves.
-          (let ran = on.feeds.ran w serves in
+          (stopped_behind_but stop new_session s t.done u.stops.done u.stops.next from mid a b c ran (u.anywhere (sessions_by grammar_parser new_session s t.done) (state_after s t.done) ran.state));
+      from = λ start serves.
+          (let w : World = new_world start in
+          let ran = on.feeds.ran w serves in
           stops_world w read (t.done ++ u.stops.done) u.stops.next l l2 a c consumed bounded first stop
           (stopped_behind stop w t.done u.stops.done u.stops.next from mid a b c ran (u.stopped (after_pieces steps w t.done) ran.serves)));
       lacks = stop_lacks _ stop u.lacks;

@@ -346,7 +346,7 @@ whole_unopened asked fault script a b sound silent change = record {
 }
 
 -- the script was run
-pub whole_opened : {kinds : List Class} (asked : Option Partitioner) (status : Status) (script later : SourceView) (a b c : View) (store : StoreView) (s : State) → IsOfState store s → IsSound a → IsSound c
+pub whole_opened : {kinds : List Class} (asked : Option Partitioner) (status : Status) (script later : SourceView) (a b c : View) (store : StoreView) (s : State) → IsOfState store new_session s → IsSound a → IsSound c
     → b.emitted ≡ a.emitted
     → ((folder : Folder) (l : Layout) → a.files ≡ Some folder → ShapeOf asked folder l → Changes (UnchangedOrShaped asked l) a b)
     → ((folder : Folder) (l : Layout) → a.files ≡ Some folder → ShapeOf asked folder l → ServesWorld b store.memory store.trace (new_world l))
@@ -356,11 +356,11 @@ whole_opened asked status script later a b c store s of sound sound_c silent cha
   as_it_reads = λ folder l files shape.
       (let serves = opened folder l files shape in
       replies_as_model status l script.left later.left a.emitted c.emitted serves.serves.in_order
-      (by_layout_behind status l script.left later.left b a c silent (on.from (new_world l) serves)));
+      (by_layout_behind status l script.left later.left b a c silent (on.from l serves)));
   shows = λ l starts.
       (let serves = opened starts.folder l starts.reads starts.shape in
       runs_opened asked status a b c l store script.left later.left sound starts (change starts.folder l starts.reads starts.shape) serves sound_c
-      (on.from (new_world l) serves));
+      (on.from l serves));
 }
 
 -- ---- the headline

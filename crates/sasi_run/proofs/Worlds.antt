@@ -5,8 +5,8 @@ use Rattle.sasi_model.specs.Pieces.{Piece}
 use Rattle.sasi_model.specs.State.{State}
 use Rattle.sasi_model.specs.Parsers.{grammar_parser}
 use Rattle.sasi_model.specs.Refusals.{read}
-use Rattle.sasi_model.specs.Sessions.{session_by}
-use Rattle.sasi_model.specs.Step.{refusals, state_after}
+use Rattle.sasi_model.specs.Sessions.{refusals_by, session_by}
+use Rattle.sasi_model.specs.Step.{state_after}
 use Rattle.sasi_layout.specs.Layout.{state_of}
 use Rattle.sasi_layout.specs.Running.{after_pieces, replies_of}
 use Rattle.sasi_layout.specs.NumbersInOrder.{HasNumbersInOrder}
@@ -14,7 +14,7 @@ use Rattle.sasi_store.specs.Worlds.{World, steps, told_in}
 use Rattle.sasi_layout.proofs.StatementLaws.{step_in_order, step_state_by}
 use Rattle.sasi_run.specs.EmitCounts.{emits_for, emits_in, emits_of}
 use Rattle.sasi_run.specs.Headline.{AreReplies}
-use Rattle.sasi_run.specs.Session.{refusals_of, refused_by}
+use Rattle.sasi_run.specs.Session.{refusals_of, refused_in}
 use Rattle.sasi_run.specs.Needs.{AreSupplied}
 use Rattle.sasi_run.specs.Shapes.{answers_of}
 use Rattle.sasi_run.proofs.Joining.{after-append, first_answers, replies-append}
@@ -59,11 +59,12 @@ answers_are (p ∷ ps) w in_order = (
       (answers_are ps (steps.after w p) (step_in_order grammar_parser w.layout p in_order)),
 )
 
-pub refusals_are : (ps : List Piece) (w : World) → HasNumbersInOrder w.layout → refusals_of w ps ≡ refusals (state_of w.layout) ps
+pub refusals_are : (ps : List Piece) (w : World) → HasNumbersInOrder w.layout → refusals_of w ps ≡ refusals_by grammar_parser w.session (state_of w.layout) ps
 refusals_are [] w in_order = refl
 refusals_are (p ∷ ps) w in_order =
-    ap (λ (n : ℕ). refused_by w p + n)
-    (refusals_are ps (steps.after w p) (step_in_order grammar_parser w.layout p in_order) ∙ ap (λ (s : State). refusals s ps) (step_state_by grammar_parser w.layout p in_order))
+    ap (λ (n : ℕ). refused_in w p + n)
+    (refusals_are ps (steps.after w p) (step_in_order grammar_parser w.layout p in_order)
+    ∙ ap (λ (s : State). refusals_by grammar_parser (session_by grammar_parser w.session (state_of w.layout) p) s ps) (step_state_by grammar_parser w.layout p in_order))
 
 -- ---- by the replies
 

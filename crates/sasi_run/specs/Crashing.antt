@@ -5,16 +5,17 @@ use Rattle.sasi_types.specs.declared.class.Class.{Class}
 use Rattle.sasi_analyzers.specs.Kits.{has_class}
 use Rattle.sasi_model.specs.Pieces.{Piece, all_pieces}
 use Rattle.sasi_model.specs.Parsers.{grammar_parser}
+use Rattle.sasi_model.specs.Sessions.{SessionState, new_session, refusals_by, sessions_by}
 use Rattle.sasi_model.specs.State.{State}
-use Rattle.sasi_model.specs.Step.{refusals, state_after}
+use Rattle.sasi_model.specs.Step.{state_after}
 use Rattle.sasi_machine.specs.Prepares.{IsStateOf}
 use Rattle.sasi_host.specs.declared.damage.Damage.{Damage}
 use Rattle.sasi_host.specs.View.{CrashLeaves, IsTold, View, counted_by}
 use Rattle.sasi_cql.specs.SplitterState.{resume}
-use Rattle.sasi_layout.specs.Layout.{state_of}
+use Rattle.sasi_layout.specs.Layout.{Layout, state_of}
 use Rattle.sasi_layout.specs.Running.{Crashed, after_pieces, replies_of}
 use Rattle.sasi_layout.specs.Serving.{Ended, closed, known_in_memory}
-use Rattle.sasi_store.specs.Worlds.{ServesWorld, World, steps}
+use Rattle.sasi_store.specs.Worlds.{HasNoCursor, ServesWorld, World, new_world, steps}
 use Rattle.sasi_store.specs.StoreView.{IsReady, StoreView}
 use Rattle.sasi_run.specs.declared.session.Session.{Session}
 use Rattle.sasi_run.specs.declared.session.Stop.{Stop}
@@ -35,30 +36,31 @@ CrashLeavesPieces a b w pieces = (out : List ℕ) → a.emitted ≡ Some out →
 
 -- ---- parts of a run, on every host
 
--- the store has the definitions and the largest timestamp of the state
-abbrev pub IsOfState : StoreView → State → Type 0
-IsOfState store s = IsStateOf (known_in_memory store.memory) s
+-- the store has the definitions and the largest timestamp of the state, and no cursor is open in the session
+pub record IsOfState (store : StoreView) (session : SessionState) (s : State) : Type 0 where
+  pub known : IsStateOf (known_in_memory store.memory) s
+  pub cursors : HasNoCursor session
 
--- From a state that the store was of these pieces were run: their replies were emitted, but for what comes from the files or tells of them, and the store is of the state after them.
-pub record RanButStored (s : State) (pieces : List Piece) (old new : Session) (a b : View) : Type 0 where
-  pub state : IsOfState new.store (state_after s pieces)
+-- From a session and a state that the store was of these pieces were run: their replies were emitted, but for what comes from the files or tells of them, and the store is of those after them.
+pub record RanButStored (session : SessionState) (s : State) (pieces : List Piece) (old new : Session) (a b : View) : Type 0 where
+  pub state : IsOfState new.store (sessions_by grammar_parser session s pieces) (state_after s pieces)
   pub shown : List ℕ
   pub emitted : Appends a.emitted b.emitted shown
-  pub replies : AreRepliesButStored grammar_parser s pieces shown
-  pub count : new.refused ≡ counted_by old.refused (refusals s pieces)
+  pub replies : AreRepliesButStored grammar_parser session s pieces shown
+  pub count : new.refused ≡ counted_by old.refused (refusals_by grammar_parser session s pieces)
 
 -- what was emitted where a run stopped behind some pieces
-abbrev pub EmittedButStored : Stop → State → List Piece → List Piece → List ℕ → Type 0
-EmittedButStored Output s done next shown = (piece : Piece) × (whole front back : List ℕ) × (next ≡ piece ∷ []) × AreRepliesButStored grammar_parser s done whole
-    × IsReplyButStored grammar_parser (state_after s done) piece (front ++ back) × (shown ≡ whole ++ front)
-EmittedButStored (Spent kind) s done next shown = (piece : Piece) × (next ≡ piece ∷ []) × AreRepliesButStored grammar_parser s done shown
-EmittedButStored stop s done next shown = AreRepliesButStored grammar_parser s done shown
+abbrev pub EmittedButStored : Stop → SessionState → State → List Piece → List Piece → List ℕ → Type 0
+EmittedButStored Output session s done next shown = (piece : Piece) × (whole front back : List ℕ) × (next ≡ piece ∷ []) × AreRepliesButStored grammar_parser session s done whole
+    × IsReplyButStored grammar_parser (sessions_by grammar_parser session s done) (state_after s done) piece (front ++ back) × (shown ≡ whole ++ front)
+EmittedButStored (Spent kind) session s done next shown = (piece : Piece) × (next ≡ piece ∷ []) × AreRepliesButStored grammar_parser session s done shown
+EmittedButStored stop session s done next shown = AreRepliesButStored grammar_parser session s done shown
 
--- From a state that the store was of the run stopped behind `done`, in `next`.
-pub record StoppedButStored (stop : Stop) (s : State) (done next : List Piece) (a b : View) : Type 0 where
+-- From a session and a state that the store was of the run stopped behind `done`, in `next`.
+pub record StoppedButStored (stop : Stop) (session : SessionState) (s : State) (done next : List Piece) (a b : View) : Type 0 where
   pub shown : List ℕ
   pub emitted : Appends a.emitted b.emitted shown
-  pub replies : EmittedButStored stop s done next shown
+  pub replies : EmittedButStored stop session s done next shown
 
 -- none of these analyzers is of the class that stopped it
 abbrev pub LacksAtStop : List Class → Stop → Type 0
@@ -86,33 +88,33 @@ pub record StoppedPieces (kinds : List Class) (stop : Stop) (w : World) (done ne
 -- the session has run this piece
 pub record AnswersCrashSafe (kinds : List Class) (old new : Session) (a b : View) (piece : Piece) : Type 0 where
   pub reading : new.splitter ≡ old.splitter
-  pub anywhere : (s : State) → IsOfState old.store s → RanButStored s (piece ∷ []) old new a b
+  pub anywhere : (x : SessionState) (s : State) → IsOfState old.store x s → RanButStored x s (piece ∷ []) old new a b
   pub ready : IsReady b new.store
   pub ran : (w : World) → ServesWorld a old.store.memory old.store.trace w → RanPieces kinds w (piece ∷ []) old new a b
 
 -- it stopped in these pieces
 pub record FailsCrashSafe (kinds : List Class) (stop : Stop) (old : Session) (a b : View) (next : List Piece) : Type 0 where
-  pub anywhere : (s : State) → IsOfState old.store s → StoppedButStored stop s [] next a b
+  pub anywhere : (x : SessionState) (s : State) → IsOfState old.store x s → StoppedButStored stop x s [] next a b
   pub stopped : (w : World) → ServesWorld a old.store.memory old.store.trace w → StoppedPieces kinds stop w [] next a b
   pub lacks : LacksAtStop kinds stop
 
 -- it was fed these bytes
 pub record FeedsCrashSafe (kinds : List Class) (old new : Session) (a b : View) (bytes : List ℕ) : Type 0 where
   pub feeds : Feeds old new bytes
-  pub anywhere : (s : State) → IsOfState old.store s → RanButStored s feeds.done old new a b
+  pub anywhere : (x : SessionState) (s : State) → IsOfState old.store x s → RanButStored x s feeds.done old new a b
   pub ready : IsReady b new.store
   pub ran : (w : World) → ServesWorld a old.store.memory old.store.trace w → RanPieces kinds w feeds.done old new a b
 
 -- it stopped within them
 pub record StopsCrashSafe (kinds : List Class) (stop : Stop) (old : Session) (a b : View) (bytes : List ℕ) : Type 0 where
   pub stops : Stops old bytes
-  pub anywhere : (s : State) → IsOfState old.store s → StoppedButStored stop s stops.done stops.next a b
+  pub anywhere : (x : SessionState) (s : State) → IsOfState old.store x s → StoppedButStored stop x s stops.done stops.next a b
   pub stopped : (w : World) → ServesWorld a old.store.memory old.store.trace w → StoppedPieces kinds stop w stops.done stops.next a b
   pub lacks : LacksAtStop kinds stop
 
 -- it has run the last piece, if anything was left of one
 pub record FinishesCrashSafe (kinds : List Class) (old new : Session) (a b : View) : Type 0 where
-  pub anywhere : (s : State) → IsOfState old.store s → RanButStored s (resume old.splitter []).last old new a b
+  pub anywhere : (x : SessionState) (s : State) → IsOfState old.store x s → RanButStored x s (resume old.splitter []).last old new a b
   pub ready : IsReady b new.store
   pub ran : (w : World) → ServesWorld a old.store.memory old.store.trace w → RanPieces kinds w (resume old.splitter []).last old new a b
 
@@ -159,7 +161,7 @@ pub record RanScript (kinds : List Class) (from to : Session) (left_old left_new
   pub consumed : Consumes left_old left_new read
   pub short : length read ≤ SCRIPT_MOST
   pub at_end : IsAtEnd left_new
-  pub anywhere : (s : State) → IsOfState from.store s → RanButStored s (all_pieces read) from to a b
+  pub anywhere : (x : SessionState) (s : State) → IsOfState from.store x s → RanButStored x s (all_pieces read) from to a b
   pub ready : IsReady b to.store
   pub ran : (w : World) → ServesWorld a from.store.memory from.store.trace w → RanPieces kinds w (all_pieces read) from to a b
 
@@ -175,8 +177,8 @@ pub record RunsWorld (kinds : List Class) (status : Status) (w : World) (left_ol
   pub needs : NeedsByStatus kinds status w (script_of left_old runs.read) runs.read runs.shown
   pub undamaged : (damage : Damage) → status ≢ Damaged damage
 
--- the run of a store from each state that it was of, and from each world that it served
+-- the run of a store, with a new session, from each state that it was of, and from each layout that it served
 pub record RunsCrashSafe (kinds : List Class) (status : Status) (store : StoreView) (left_old left_new : Option (List ℕ)) (a b : View) : Type 0 where
-  pub anywhere : (s : State) → IsOfState store s → Runs grammar_parser (but_stored grammar_parser) status s left_old left_new a.emitted b.emitted
-  pub from : (w : World) → ServesWorld a store.memory store.trace w → RunsWorld kinds status w left_old left_new a b
+  pub anywhere : (s : State) → IsOfState store new_session s → Runs grammar_parser (but_stored grammar_parser) status s left_old left_new a.emitted b.emitted
+  pub from : (l : Layout) → ServesWorld a store.memory store.trace (new_world l) → RunsWorld kinds status (new_world l) left_old left_new a b
   pub lacks : (class : Class) → status ≡ AnalyzerMissing class → has_class class kinds ≡ false

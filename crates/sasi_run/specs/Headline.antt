@@ -10,12 +10,12 @@ use Rattle.sasi_host.specs.Names.{Folder}
 use Rattle.sasi_model.specs.Pieces.{Piece, pieces, all_pieces}
 use Rattle.sasi_model.specs.State.{State}
 use Rattle.sasi_model.specs.Parsers.{Parser, IsParser}
-use Rattle.sasi_model.specs.Step.{step_by, state_by, refusals_by}
+use Rattle.sasi_model.specs.Step.{step_by, state_by}
 use Rattle.sasi_recover.specs.declared.fault.OpenFault.{OpenFault}
 use Rattle.sasi_recover.specs.declared.fault.OpenFault.TheVariants as open_fault
 use Rattle.sasi_store.specs.Answers.{PrintsStored}
 use Rattle.sasi_run.specs.Recovering.{Recovers, StandsRelation, next_reply}
-use Rattle.sasi_model.specs.Sessions.{SessionState, Told, new_session, reply_by, session_by}
+use Rattle.sasi_model.specs.Sessions.{SessionState, Told, new_session, refusals_by, reply_by, session_by, sessions_by, turn_by}
 use Rattle.sasi_run.specs.declared.session.Stop.{Stop}
 use Rattle.sasi_run.specs.declared.session.Stop.TheVariants.{Disk, Output, Memory, Corrupt, Spent, Missing}
 use Rattle.sasi_run.specs.declared.status.Status.{Status}
@@ -54,24 +54,28 @@ first_of answers = record {
 }
 
 -- the reply of a piece is that of the model, but where it comes from the files or tells of them
-abbrev pub IsReplyButStored : Parser → State → Piece → List ℕ → Type 0
-IsReplyButStored parser s piece reply = ¬ (PrintsStored parser s piece) → reply ≡ (step_by parser s piece).reply
+abbrev pub IsReplyButStored : Parser → SessionState → State → Piece → List ℕ → Type 0
+IsReplyButStored parser session s piece reply = ¬ (PrintsStored parser session s piece) → reply ≡ (turn_by parser session s piece).reply
 
 -- and so is each of the replies of pieces, in their order
-abbrev pub AreRepliesButStored : Parser → State → List Piece → List ℕ → Type 0
-AreRepliesButStored parser s [] shown = shown ≡ []
-AreRepliesButStored parser s (p ∷ ps) shown = (reply others : List ℕ) × (shown ≡ reply ++ others) × IsReplyButStored parser s p reply × AreRepliesButStored parser (step_by parser s p).state ps others
+abbrev pub AreRepliesButStored : Parser → SessionState → State → List Piece → List ℕ → Type 0
+AreRepliesButStored parser session s [] shown = shown ≡ []
+AreRepliesButStored parser session s (p ∷ ps) shown = (reply others : List ℕ) × (shown ≡ reply ++ others) × IsReplyButStored parser session s p reply
+    × AreRepliesButStored parser (session_by parser session s p) (step_by parser s p).state ps others
 
--- they are those of the model, whatever the SELECTs print, and whatever SHOW FILES does
+-- they are those of the model, whatever SELECTs and FETCHes print, and whatever SHOW FILES does
 abbrev pub but_stored : Parser → Replies
-but_stored parser = record { all = AreRepliesButStored parser; one = λ s done piece reply. IsReplyButStored parser (state_by parser s done) piece reply }
+but_stored parser = record {
+  all = AreRepliesButStored parser new_session;
+  one = λ s done piece reply. IsReplyButStored parser (sessions_by parser new_session s done) (state_by parser s done) piece reply;
+}
 
 -- ---- what was emitted
 
 -- the replies of all pieces of the script, of which so many are refused
 pub record EmitsAllReplies (parser : Parser) (r : Replies) (s : State) (read shown : List ℕ) (refused : ℕ) : Type 0 where
   pub all : r.all s (all_pieces read) shown
-  pub count : refused ≡ min (refusals_by parser s (all_pieces read)) (2 ^ 64 - 1)
+  pub count : refused ≡ min (refusals_by parser new_session s (all_pieces read)) (2 ^ 64 - 1)
   pub short : length read ≤ SCRIPT_MOST
 
 -- the replies of exactly the whole pieces within the bytes read

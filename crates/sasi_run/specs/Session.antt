@@ -9,8 +9,9 @@ use Rattle.sasi_host.specs.View.{View, FailedAtLast, counted}
 use Rattle.std.specs.Io.KnownBytes.{Appends}
 use Rattle.sasi_types.specs.declared.class.Class.{Class}
 use Rattle.sasi_model.specs.Asked.{asks}
+use Rattle.sasi_model.specs.Parsers.{grammar_parser}
 use Rattle.sasi_model.specs.Pieces.{Piece, pieces}
-use Rattle.sasi_model.specs.Step.{step}
+use Rattle.sasi_model.specs.Sessions.{refused_by}
 use Rattle.sasi_machine.specs.declared.outcome.Outcome.{Outcome}
 use Rattle.sasi_machine.specs.declared.outcome.Outcome.TheVariants as outcomes
 use Rattle.sasi_cql.specs.SplitterState.{SplitterState, resume, behind}
@@ -43,13 +44,13 @@ counted_outcome count (outcomes.Refused number) = counted count
 -- ---- the pieces of a world
 
 -- how much a piece adds to the count of those refused
-abbrev pub refused_by : World → Piece → ℕ
-refused_by w piece = if is_some (step (state_of w.layout) piece).refused then 1 else 0
+abbrev pub refused_in : World → Piece → ℕ
+refused_in w piece = if is_some (refused_by grammar_parser w.session (state_of w.layout) piece) then 1 else 0
 
 -- how many of the pieces are refused
 abbrev pub refusals_of : World → List Piece → ℕ
 refusals_of w [] = 0
-refusals_of w (p ∷ ps) = refused_by w p + refusals_of (steps.after w p) ps
+refusals_of w (p ∷ ps) = refused_in w p + refusals_of (steps.after w p) ps
 
 -- ---- what is fed
 

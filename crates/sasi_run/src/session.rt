@@ -110,7 +110,7 @@ pub fn answer<H: Host>(
     requires classes { KnowsClasses (map (λ b. kind (b.vtable, b.value)) kit.old.objects.items) session.old.store.memory }
     ensures ok { OnOk result (AnswersCrashSafe (map (λ b. kind (b.vtable, b.value)) kit.old.objects.items) session.old session.new (H.view host.old) (H.view host.new) (piece_of end session.old.splitter.text)) }
     ensures err { IfErr result (λ stop. FailsCrashSafe (map (λ b. kind (b.vtable, b.value)) kit.old.objects.items) stop session.old (H.view host.old) (H.view host.new) (piece_of end session.old.splitter.text ∷ [])) }
-    ensures no_file_call { (w : World) → ServesWorld (H.view host.old) session.old.store.memory session.old.store.trace w → NeedsNoFile (state_of w.layout) (piece_of end session.old.splitter.text) → (H.view host.new).calls ≡ (H.view host.old).calls }
+    ensures no_file_call { (w : World) → ServesWorld (H.view host.old) session.old.store.memory session.old.store.trace w → NeedsNoFile w.session (state_of w.layout) (piece_of end session.old.splitter.text) → (H.view host.new).calls ≡ (H.view host.old).calls }
     ensures causes { Faults (H.view host.old) (H.view host.new) result }
     ensures told { FailsOnlyAsTold (H.view host.old) (H.view host.new) }
     ensures classes { OnOk result (KnowsClasses (map (λ b. kind (b.vtable, b.value)) kit.new.objects.items) session.new.store.memory) }

@@ -33,6 +33,7 @@ pub mod Stepping
 pub mod NoFile
 pub mod ToldFiles
 pub mod StepFiles
+pub mod StepCursors
 pub mod FloorLaws
 pub mod FlushingParts
 pub mod FlushPrepared

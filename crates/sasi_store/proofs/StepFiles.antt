@@ -3,6 +3,7 @@ use Rattle.std.proofs.Common.{◌≡◌, ◌++◌, Bool, List, ℕ, [], Ok, inr,
 use Rattle.sasi_host.specs.View.{IsSound, View}
 use Rattle.sasi_layout.specs.Layout.{Layout, listing_of, state_of}
 use Rattle.sasi_layout.specs.Serving.{CanChange, StoreInMemory, known_in_memory}
+use Rattle.sasi_machine.proofs.SessionTurns.{listed_turns}
 use Rattle.sasi_machine.specs.Prepares.{AsksFiles, IsShowFiles, IsStateOf, SaysOne, StepsTo}
 use Rattle.sasi_machine.specs.declared.outcome.Outcome.TheVariants.{Done}
 use Rattle.sasi_model.specs.Asked as ask
@@ -10,16 +11,15 @@ use Rattle.sasi_model.specs.Asked.{asks}
 use Rattle.sasi_model.specs.Lines.{files_lines}
 use Rattle.sasi_model.specs.Pieces.{Piece}
 use Rattle.sasi_model.specs.Refusals.{Says, read}
-use Rattle.sasi_model.specs.Sessions.{SessionState, Tail, tail_bytes}
+use Rattle.sasi_machine.specs.Outcome.{outcome_of}
+use Rattle.sasi_model.specs.Sessions.{Turn, tail_bytes}
 use Rattle.sasi_model.specs.State.{State}
-use Rattle.sasi_model.specs.Step.{step}
 use Rattle.sasi_types.specs.declared.class.Class.{Class}
 use Rattle.sasi_types.specs.declared.statement.Statement.{Statement}
 use Rattle.sasi_types.specs.declared.statement.Statement.TheVariants.{ShowFiles}
 use Rattle.sasi_store.specs.Steps.{StepPromises}
-use Rattle.sasi_store.specs.Worlds.{file_texts, told_in}
-use Rattle.sasi_store.proofs.SessionLaws.{listed_turns}
-use Rattle.sasi_store.proofs.Stepping.{none_refused, state_is, step_quiet}
+use Rattle.sasi_store.specs.Worlds.{HasNoCursor, file_texts, told_in}
+use Rattle.sasi_store.proofs.Stepping.{state_is, step_quiet, turn_taken}
 
 shows_files : (s : State) (piece : Piece) → SaysOne piece (AsksFiles s) → IsShowFiles (read piece)
 shows_files s piece (statement, says, in_order, asked) = subst IsShowFiles (sym says) (by statement asked)
@@ -34,19 +34,21 @@ pub step_listed : {was : Bool} (kinds : List Class) (v : View) (sound : IsSound 
     → ((l : Layout) → old.manifest.listing ≡ listing_of l → reply ≡ front ++ files_lines (file_texts l)) → StepPromises kinds piece v v old old was was reply (Ok Done)
 step_listed {was} kinds v sound old piece front reply ready is prepares told =
     step_quiet {trace = was} kinds v sound old piece reply Done ready is
-    (λ s of.
+    (λ x s none of.
     let prepared = prepares s of in
+    let turned = listed_turns s piece prepared.2 in
     record {
       state_is = subst (IsStateOf (known_in_memory old)) (sym prepared.0.state_is) of;
-      outcome_is = prepared.0.outcome_is;
-      reply_is = λ other. absurd (other (inr (shows_files s piece prepared.2), none_refused (step s piece).refused prepared.0.outcome_is));
+      cursors_are = subst (λ (t : Turn). HasNoCursor t.session) (sym (turned.turn_is x)) none;
+      outcome_is = prepared.0.outcome_is ∙ ap (λ (t : Turn). outcome_of t.refused) (sym (turned.turn_is x));
+      reply_is = λ other. absurd (other (inr (inr (shows_files s piece prepared.2)), turn_taken x s piece _ _ turned prepared.0.outcome_is));
     })
     (λ w serves.
     let s = state_of w.layout in
     let prepared = prepares s (state_is v old w.layout serves.serves) in
     let turned = listed_turns s piece prepared.2 in (
-      serves.trace_is ∙ ap (λ (x : SessionState). x.trace) (sym (turned.session_is w.session)),
-      ap (λ (tail : Tail). (step s piece).reply ++ tail_bytes tail (told_in w.layout (read piece))) (turned.tail_is w.session)
+      serves.trace_is ∙ ap (λ (t : Turn). t.session.trace) (sym (turned.turn_is w.session)),
+      ap (λ (t : Turn). t.reply ++ tail_bytes t.tail (told_in w.layout (read piece))) (turned.turn_is w.session)
           ∙ ap (λ (first : List ℕ). first ++ files_lines (file_texts w.layout)) prepared.0.reply_is
           ∙ sym (told w.layout serves.serves.listing),
     ))

@@ -1,5 +1,6 @@
 -- What the parts of a step make of its promises.
-use Rattle.std.proofs.Common.{◌≡◌, ◌≢◌, ◌+◌, ◌≤◌, ◌++◌, ◌∷◌, Bool, ℕ, List, [], Option, None, Some, Result, Ok, Err, refl, sym, ap, subst, ◌∙◌, inl, arith}
+use Rattle.std.proofs.Common.{◌≡◌, ◌≢◌, ◌+◌, ◌≤◌, ◌++◌, ◌∷◌, Bool, cond, ℕ, List, [], Option, None, Some, Result, Ok, Err, refl, sym, ap, subst, ◌∙◌, inl, arith}
+use Rattle.std.proofs.lemmas.List.{append-nil}
 use Rattle.std.specs.Option.{option_map_or}
 use Rattle.sasi_folder.specs.Damages.{FolderShows}
 use Rattle.sasi_host.proofs.ChangeLaws.{at_each_moment, stays}
@@ -23,6 +24,7 @@ use Rattle.sasi_layout.specs.declared.number_kind.NumberKind.{NumberKind}
 use Rattle.sasi_machine.proofs.KnownStates.{knows}
 use Rattle.sasi_machine.specs.Classes as kits
 use Rattle.sasi_machine.specs.Outcome.{outcome_of}
+use Rattle.sasi_machine.proofs.SessionTurns.{LeavesSession, TurnsSession, refused_leaves, selected_turns, tail_checked, traced_turns}
 use Rattle.sasi_machine.specs.Prepares.{IsQuery, IsRefusedOrEmpty, IsStateOf, SaysOne, SelectsRows, StepsTo, TurnsTrace, answer_rows}
 use Rattle.sasi_machine.specs.declared.prepared.Selection.{Selection}
 use Rattle.sasi_machine.specs.declared.outcome.Outcome.{Outcome}
@@ -37,8 +39,10 @@ use Rattle.sasi_model.specs.Abbreviations.{definitions}
 use Rattle.sasi_model.specs.Asked as ask
 use Rattle.sasi_model.specs.Asked.{Asked, asks, class_needed}
 use Rattle.sasi_model.specs.Pieces.{Piece}
+use Rattle.sasi_model.specs.Lines.{refusal_line}
 use Rattle.sasi_model.specs.Refusals.{Refusal, Says, read}
-use Rattle.sasi_model.specs.Sessions.{SessionState, Tail, tail_bytes}
+use Rattle.sasi_model.specs.Parsers.{grammar_parser}
+use Rattle.sasi_model.specs.Sessions.{CheckedTail, NoTail, SessionState, Tail, Turn, refused_by, refused_turn, tail_bytes, turn_by}
 use Rattle.sasi_model.specs.State.{Definition, State, max_timestamp}
 use Rattle.sasi_model.specs.Step.{step}
 use Rattle.sasi_store.specs.Answers.{AnsweredButRows}
@@ -48,12 +52,11 @@ use Rattle.sasi_schema.specs.Numbers.{number_of_table}
 use Rattle.sasi_store.specs.MakesMoves.{MakesMoves}
 use Rattle.sasi_store.specs.Selects.{HasShortFiles, HasShortRows, HasShortTable, select_reads, selection_reads}
 use Rattle.sasi_store.specs.Steps.{StepPromises}
-use Rattle.sasi_store.specs.Worlds.{ServesWorld, World, piece_checks, rows_tail, selection_checks, steps, told_in}
+use Rattle.sasi_store.specs.Worlds.{HasNoCursor, ServesWorld, World, piece_checks, rows_tail, selection_checks, steps, told_in}
 use Rattle.sasi_store.specs.declared.fault.StepFault.{StepFault}
 use Rattle.sasi_store.specs.declared.fault.StepFault.TheVariants as fault
 use Rattle.sasi_store.proofs.ListedFrames.{same_stays}
 use Rattle.sasi_store.proofs.MoveCauses.{any_change, none_made}
-use Rattle.sasi_store.proofs.SessionLaws.{LeavesSession, plain_reply, refused_leaves, selected_turns, tail_checked, traced_turns}
 
 -- ---- a world and its state
 
@@ -101,13 +104,36 @@ never_missing P (fault.AnalyzerMissing class) never = absurd never
 needed_asked : (kinds : List Class) (asked other : Asked) → asked ≡ other → HasNeeded kinds (class_needed other) → HasNeeded kinds (class_needed asked)
 needed_asked kinds asked other is has = subst (λ (a : Asked). HasNeeded kinds (class_needed a)) (sym is) has
 
--- the whole reply was known from the state
-answered_as : (store : StoreInMemory) (s after : State) (piece : Piece) (reply : List ℕ) (outcome : Outcome) → StepsTo s piece after reply outcome → IsStateOf (known_in_memory store) after → AnsweredButRows store s piece reply outcome
-answered_as store s after piece reply outcome to of = record {
-  state_is = subst (IsStateOf (known_in_memory store)) (sym to.state_is) of;
+-- ---- turns
+
+-- the piece makes this of the session, and this is its whole reply
+record Turns (x : SessionState) (s : State) (piece : Piece) (after : SessionState) (reply : List ℕ) (outcome : Outcome) : Type 0 where
+  pub refused : Option Refusal
+  pub turn_is : turn_by grammar_parser x s piece ≡ record { session = after; reply = reply; tail = NoTail; refused = refused }
+  pub outcome_is : outcome ≡ outcome_of refused
+
+-- as the state's step does
+turns_plainly : (x : SessionState) (s after : State) (piece : Piece) (reply : List ℕ) (outcome : Outcome) (f : SessionState → SessionState) → TurnsSession s piece f (λ _. NoTail) → StepsTo s piece after reply outcome
+    → Turns x s piece (f x) reply outcome
+turns_plainly x s after piece reply outcome f turned to = record {
+  refused = (step s piece).refused;
+  turn_is = turned.turn_is x ∙ ap (λ (front : List ℕ). record { session = f x; reply = front; tail = NoTail; refused = (step s piece).refused }) to.reply_is;
   outcome_is = to.outcome_is;
-  reply_is = λ _. sym to.reply_is;
 }
+
+-- the whole reply was known from the state
+answered_as : (store : StoreInMemory) (x after : SessionState) (s : State) (piece : Piece) (reply : List ℕ) (outcome : Outcome) → Turns x s piece after reply outcome → HasNoCursor after
+    → IsStateOf (known_in_memory store) (step s piece).state → AnsweredButRows store x s piece reply outcome
+answered_as store x after s piece reply outcome turned none of = record {
+  state_is = of;
+  cursors_are = subst (λ (t : Turn). HasNoCursor t.session) (sym turned.turn_is) none;
+  outcome_is = turned.outcome_is ∙ ap (λ (t : Turn). outcome_of t.refused) (sym turned.turn_is);
+  reply_is = λ _. ap (λ (t : Turn). t.reply) (sym turned.turn_is);
+}
+
+-- it is that of the world's step
+reply_turned : (w : World) (piece : Piece) (after : SessionState) (reply : List ℕ) (outcome : Outcome) → Turns w.session (state_of w.layout) piece after reply outcome → steps.reply w piece ≡ reply
+reply_turned w piece after reply outcome turned = ap (λ (t : Turn). t.reply ++ tail_bytes t.tail (told_in w.layout (read piece))) turned.turn_is ∙ append-nil reply
 
 module _ {T : Type 0} (kinds : List Class) (a b : View) (old new : StoreInMemory) {was : Bool} (piece : Piece) (reply : List ℕ) (asked : Asked) (is : asks (known_in_memory old) piece ≡ asked) (changing : asked ≡ ask.NoChange → ⊥) where
   -- its moves were made; `after` is the state after the piece
@@ -120,14 +146,20 @@ module _ {T : Type 0} (kinds : List Class) (a b : View) (old new : StoreInMemory
     answers = λ w serves.
         let of = state_is a old w.layout serves.serves in
         let to = steps_to (state_of w.layout) of in
-        let left = leaves (state_of w.layout) of in
+        let turned = turns_plainly w.session (state_of w.layout) (after (state_of w.layout)) piece reply Done (λ x. x) (leaves (state_of w.layout) of) to in
         record {
-          serves = record { serves = subst (λ (ms : List Move). Serves b new (after_moves ms w.layout)) (sym (moves_are a old piece asked is w.layout serves.serves)) (makes.serves w.layout serves.serves); trace_is = serves.trace_is ∙ ap (λ (x : SessionState). x.trace) (sym (left.session_is w.session)) };
-          reply_is = sym (plain_reply (state_of w.layout) piece (λ x. x) left w.session _ ∙ to.reply_is);
-          outcome_is = to.outcome_is;
+          serves = record {
+            serves = subst (λ (ms : List Move). Serves b new (after_moves ms w.layout)) (sym (moves_are a old piece asked is w.layout serves.serves)) (makes.serves w.layout serves.serves);
+            trace_is = serves.trace_is ∙ ap (λ (t : Turn). t.session.trace) (sym turned.turn_is);
+            cursors_are = subst (λ (t : Turn). HasNoCursor t.session) (sym turned.turn_is) serves.cursors_are;
+          };
+          reply_is = sym (reply_turned w piece w.session reply Done turned);
+          outcome_is = turned.outcome_is ∙ ap (λ (t : Turn). outcome_of t.refused) (sym turned.turn_is);
           unspent = ap (spent w.layout) (moves_are a old piece asked is w.layout serves.serves) ∙ makes.unspent w.layout serves.serves;
         };
-    everywhere = λ s of. answered_as new s (after s) piece reply Done (steps_to s of) (known s of);
+    everywhere = λ x s none of.
+        let to = steps_to s of in
+        answered_as new x x s piece reply Done (turns_plainly x s (after s) piece reply Done (λ y. y) (leaves s of) to) none (subst (IsStateOf (known_in_memory new)) (sym to.state_is) (known s of));
     ready = makes.ready;
     any_moment = λ w serves. subst (λ (ms : List Move). Changes (λ x y. Between w.layout ms y) a b) (sym (moves_are a old piece asked is w.layout serves.serves)) (makes.any_moment w.layout serves.serves);
     spent_is = tt;
@@ -223,16 +255,21 @@ step_missing kinds v sound old piece reply asked class is lacks =
 
 -- it is answered without a move
 pub step_quiet : {was trace : Bool} (kinds : List Class) (v : View) (sound : IsSound v) (old : StoreInMemory) (piece : Piece) (reply : List ℕ) (outcome : Outcome) → CanChange v old → asks (known_in_memory old) piece ≡ ask.NoChange
-    → ((s : State) → IsStateOf (known_in_memory old) s → AnsweredButRows old s piece reply outcome)
+    → ((x : SessionState) (s : State) → HasNoCursor x → IsStateOf (known_in_memory old) s → AnsweredButRows old x s piece reply outcome)
     → ((w : World) → ServesWorld v old was w → (trace ≡ (steps.after w piece).session.trace) × (steps.reply w piece ≡ reply))
     → StepPromises kinds piece v v old old was trace reply (Ok outcome)
 step_quiet kinds v sound old piece reply outcome ready is everywhere turns = record {
   answers = λ w serves.
       let turned = turns w serves in
+      let here = everywhere w.session (state_of w.layout) serves.cursors_are (state_is v old w.layout serves.serves) in
       record {
-        serves = record { serves = subst (λ (ms : List Move). Serves v old (after_moves ms w.layout)) (sym (moves_are v old piece ask.NoChange is w.layout serves.serves)) serves.serves; trace_is = turned.0 };
+        serves = record {
+          serves = subst (λ (ms : List Move). Serves v old (after_moves ms w.layout)) (sym (moves_are v old piece ask.NoChange is w.layout serves.serves)) serves.serves;
+          trace_is = turned.0;
+          cursors_are = here.cursors_are;
+        };
         reply_is = sym turned.1;
-        outcome_is = (everywhere (state_of w.layout) (state_is v old w.layout serves.serves)).outcome_is;
+        outcome_is = here.outcome_is;
         unspent = ap (spent w.layout) (moves_are v old piece ask.NoChange is w.layout serves.serves);
       };
   everywhere = everywhere;
@@ -254,32 +291,44 @@ step_quiet kinds v sound old piece reply outcome ready is everywhere turns = rec
   causes = none_made v (Ok outcome) (λ e same. cc);
 }
 
--- and its whole reply was known from the state
-step_still : {was trace : Bool} (kinds : List Class) (v : View) (sound : IsSound v) (old : StoreInMemory) (piece : Piece) (reply : List ℕ) (outcome : Outcome) → CanChange v old → asks (known_in_memory old) piece ≡ ask.NoChange
-    → ((s : State) → IsStateOf (known_in_memory old) s → StepsTo s piece s reply outcome)
-    → ((w : World) → ServesWorld v old was w → (trace ≡ (steps.after w piece).session.trace) × (steps.reply w piece ≡ (step (state_of w.layout) piece).reply))
+-- and its whole reply was known; `f` is what it makes of each session
+step_still : {was trace : Bool} (kinds : List Class) (v : View) (sound : IsSound v) (old : StoreInMemory) (piece : Piece) (reply : List ℕ) (outcome : Outcome) (f : SessionState → SessionState) → CanChange v old → asks (known_in_memory old) piece ≡ ask.NoChange
+    → ((s : State) → IsStateOf (known_in_memory old) s → (step s piece).state ≡ s) → ((x : SessionState) → HasNoCursor x → HasNoCursor (f x)) → ((x : SessionState) → was ≡ x.trace → trace ≡ (f x).trace)
+    → ((x : SessionState) (s : State) → HasNoCursor x → IsStateOf (known_in_memory old) s → Turns x s piece (f x) reply outcome)
     → StepPromises kinds piece v v old old was trace reply (Ok outcome)
-step_still kinds v sound old piece reply outcome ready is steps_to turns =
-    step_quiet kinds v sound old piece reply outcome ready is (λ s of. answered_as old s s piece reply outcome (steps_to s of) of)
-    (λ w serves. let turned = turns w serves in (turned.0, turned.1 ∙ (steps_to (state_of w.layout) (state_is v old w.layout serves.serves)).reply_is))
+step_still kinds v sound old piece reply outcome f ready is stays_in leaves_none on turns =
+    step_quiet kinds v sound old piece reply outcome ready is
+    (λ x s none of. answered_as old x (f x) s piece reply outcome (turns x s none of) (leaves_none x none) (subst (IsStateOf (known_in_memory old)) (sym (stays_in s of)) of))
+    (λ w serves.
+    let turned = turns w.session (state_of w.layout) serves.cursors_are (state_is v old w.layout serves.serves) in
+    (on w.session serves.trace_is ∙ ap (λ (t : Turn). t.session.trace) (sym turned.turn_is), reply_turned w piece (f w.session) reply outcome turned))
 
 -- a piece that is refused, or has no reply, leaves the session,
 pub step_answered : {was : Bool} (kinds : List Class) (v : View) (sound : IsSound v) (old : StoreInMemory) (piece : Piece) (reply : List ℕ) (outcome : Outcome) → CanChange v old → asks (known_in_memory old) piece ≡ ask.NoChange
     → ((s : State) → IsStateOf (known_in_memory old) s → StepsTo s piece s reply outcome × IsRefusedOrEmpty s piece) → StepPromises kinds piece v v old old was was reply (Ok outcome)
 step_answered kinds v sound old piece reply outcome ready is prepares =
-    step_still kinds v sound old piece reply outcome ready is (λ s of. (prepares s of).0)
-    (λ w serves.
-    let left = refused_leaves (state_of w.layout) piece (prepares (state_of w.layout) (state_is v old w.layout serves.serves)).1 in
-    (serves.trace_is ∙ ap (λ (x : SessionState). x.trace) (sym (left.session_is w.session)), plain_reply (state_of w.layout) piece (λ x. x) left w.session _))
+    step_still kinds v sound old piece reply outcome (λ x. x) ready is (λ s of. (prepares s of).0.state_is) (λ x none. none) (λ x on. on)
+    (λ x s none of. let prepared = prepares s of in turns_plainly x s s piece reply outcome (λ y. y) (refused_leaves s piece prepared.1) prepared.0)
 
--- and TRACE turns it on or off
+-- TRACE turns it on or off,
 pub step_traced : {was : Bool} (kinds : List Class) (v : View) (sound : IsSound v) (old : StoreInMemory) (piece : Piece) (reply : List ℕ) (on : Bool) → CanChange v old → asks (known_in_memory old) piece ≡ ask.NoChange
     → ((s : State) → IsStateOf (known_in_memory old) s → StepsTo s piece s reply Done × SaysOne piece (λ statement. TurnsTrace s statement on)) → StepPromises kinds piece v v old old was on reply (Ok Done)
 step_traced kinds v sound old piece reply on ready is prepares =
-    step_still kinds v sound old piece reply Done ready is (λ s of. (prepares s of).0)
-    (λ w serves.
-    let turned = traced_turns (state_of w.layout) piece on (prepares (state_of w.layout) (state_is v old w.layout serves.serves)).1 in
-    (ap (λ (x : SessionState). x.trace) (sym (turned.session_is w.session)), plain_reply (state_of w.layout) piece _ turned w.session _))
+    step_still kinds v sound old piece reply Done (λ x. record x { trace = on }) ready is (λ s of. (prepares s of).0.state_is) (λ x none. none) (λ x before. refl)
+    (λ x s none of. let prepared = prepares s of in turns_plainly x s s piece reply Done (λ y. record y { trace = on }) (traced_turns s piece on prepared.1) prepared.0)
+
+-- and one that a rule of cursors refuses leaves it.
+pub step_ruled : {was : Bool} (kinds : List Class) (v : View) (sound : IsSound v) (old : StoreInMemory) (piece : Piece) (reply : List ℕ) (outcome : Outcome) (r : Refusal) → CanChange v old → asks (known_in_memory old) piece ≡ ask.NoChange
+    → reply ≡ refusal_line r → outcome ≡ outcome_of (Some r) → ((s : State) → IsStateOf (known_in_memory old) s → (step s piece).state ≡ s)
+    → ((x : SessionState) (s : State) → HasNoCursor x → IsStateOf (known_in_memory old) s → turn_by grammar_parser x s piece ≡ refused_turn x r)
+    → StepPromises kinds piece v v old old was was reply (Ok outcome)
+step_ruled kinds v sound old piece reply outcome r ready is reply_is outcome_is stays_in turned =
+    step_still kinds v sound old piece reply outcome (λ x. x) ready is stays_in (λ x none. none) (λ x on. on)
+    (λ x s none of. record {
+      refused = Some r;
+      turn_is = turned x s none of ∙ ap (λ (line : List ℕ). record { session = x; reply = line; tail = NoTail; refused = Some r }) (sym reply_is);
+      outcome_is = outcome_is;
+    })
 
 -- ---- a SELECT
 
@@ -328,8 +377,8 @@ pub select_turns : (w : World) (piece : Piece) (rows : Selection) (was : Bool) (
 select_turns w piece rows was reply to says on reply_is =
     let s = state_of w.layout in
     let turned = selected_turns s piece rows says in (
-      on ∙ ap (λ (x : SessionState). x.trace) (sym (turned.session_is w.session)),
-      ap (λ (tail : Tail). (step s piece).reply ++ tail_bytes tail (told_in w.layout (read piece))) (turned.tail_is w.session)
+      on ∙ ap (λ (t : Turn). t.session.trace) (sym (turned.turn_is w.session)),
+      ap (λ (t : Turn). t.reply ++ tail_bytes t.tail (told_in w.layout (read piece))) (turned.turn_is w.session)
           ∙ ap (λ (end : List ℕ). (step s piece).reply ++ end) (tail_checked w.session.trace (told_in w.layout (read piece)))
           ∙ ap (λ (b : Bool). (step s piece).reply ++ rows_tail b (piece_checks w.layout (read piece))) (sym on)
           ∙ ap (λ (n : ℕ). (step s piece).reply ++ rows_tail was n) (select_checks w.layout s piece rows (sym (definitions_are w.layout)) says)
@@ -340,6 +389,10 @@ select_turns w piece rows was reply to says on reply_is =
 pub none_refused : (o : Option Refusal) → Done ≡ outcome_of o → o ≡ None
 none_refused None done = refl
 none_refused (Some r) done = cc
+
+-- a piece of which the state's step isn't refused, nor is it by a rule of cursors
+pub turn_taken : (x : SessionState) (s : State) (piece : Piece) (f : SessionState → SessionState) (tail : SessionState → Tail) → TurnsSession s piece f tail → Done ≡ outcome_of (step s piece).refused → refused_by grammar_parser x s piece ≡ None
+turn_taken x s piece f tail turned done = ap (λ (t : Turn). t.refused) (turned.turn_is x) ∙ none_refused (step s piece).refused done
 
 module _ (a b : View) (change : Changes Same a b) where
   -- each image was one before
@@ -384,25 +437,29 @@ module _ {was : Bool} (kinds : List Class) (a b : View) (sound : IsSound a) (old
       (λ x y has same. none_done w.layout (steps.moves w piece) y (_, subst (λ (z : Folder). HasShape z (bare w.layout) (serves.serves.older ++ serves.serves.current ∷ [])) (sym same) has))
 
   pub select_answered : {T : Type 0} (x : T) (reply : List ℕ) → CanChange a old → ((w : World) → ServesWorld a old was w → (was ≡ (steps.after w piece).session.trace) × (steps.reply w piece ≡ reply))
-      → ((s : State) → IsStateOf (known_in_memory old) s → ((step s piece).state ≡ s) × (Done ≡ outcome_of (step s piece).refused))
+      → ((s : State) → IsStateOf (known_in_memory old) s → ((step s piece).state ≡ s) × (Done ≡ outcome_of (step s piece).refused) × TurnsSession s piece (λ x. x) (λ x. cond x.trace CheckedTail NoTail))
       → ((w : World) → ServesWorld a old was w → HasShortRows a.files w.layout (read piece) → b.reads ≤ a.reads + select_reads a.files w.layout (read piece))
       → StepCauses {T = T} a b (Ok x) → StepPromises kinds piece a b old old was was reply (Ok Done)
   select_answered x reply ready replied steps_to costs causes = record {
-    answers = λ w serves. record {
-      serves = record {
-        serves = subst (λ (ms : List Move). Serves b old (after_moves ms w.layout)) (sym (moves_are a old piece ask.NoChange is w.layout serves.serves)) (serves_same a b change old w.layout serves.serves);
-        trace_is = (replied w serves).0;
-      };
-      reply_is = sym (replied w serves).1;
-      outcome_is = (steps_to (state_of w.layout) (state_is a old w.layout serves.serves)).1;
-      unspent = ap (spent w.layout) (moves_are a old piece ask.NoChange is w.layout serves.serves);
-    };
-    everywhere = λ s of.
+    answers = λ w serves.
+        let to = steps_to (state_of w.layout) (state_is a old w.layout serves.serves) in
+        record {
+          serves = record {
+            serves = subst (λ (ms : List Move). Serves b old (after_moves ms w.layout)) (sym (moves_are a old piece ask.NoChange is w.layout serves.serves)) (serves_same a b change old w.layout serves.serves);
+            trace_is = (replied w serves).0;
+            cursors_are = subst (λ (t : Turn). HasNoCursor t.session) (sym (to.2.turn_is w.session)) serves.cursors_are;
+          };
+          reply_is = sym (replied w serves).1;
+          outcome_is = to.1 ∙ ap (λ (t : Turn). outcome_of t.refused) (sym (to.2.turn_is w.session));
+          unspent = ap (spent w.layout) (moves_are a old piece ask.NoChange is w.layout serves.serves);
+        };
+    everywhere = λ x s none of.
         let to = steps_to s of in
         record {
           state_is = subst (IsStateOf (known_in_memory old)) (sym to.0) of;
-          outcome_is = to.1;
-          reply_is = λ other. absurd (other (inl query, none_refused (step s piece).refused to.1));
+          cursors_are = subst (λ (t : Turn). HasNoCursor t.session) (sym (to.2.turn_is x)) none;
+          outcome_is = to.1 ∙ ap (λ (t : Turn). outcome_of t.refused) (sym (to.2.turn_is x));
+          reply_is = λ other. absurd (other (inl query, turn_taken x s piece _ _ to.2 to.1));
         };
     ready = ready_same a b change old ready;
     any_moment = moments;

@@ -1,36 +1,43 @@
 -- What a step answers, for each world that the store serves.
-use Rattle.std.specs.Prelude.{◌≡◌, ◌⊎◌, ⊤, Bool, ℕ, List, None}
+use Rattle.std.specs.Prelude.{◌≡◌, ◌⊎◌, ⊤, Bool, ℕ, List, None, IsSome}
 use Rattle.sasi_host.specs.View.{View}
 use Rattle.sasi_layout.specs.Layout.{state_of}
 use Rattle.sasi_layout.specs.Serving.{StoreInMemory, known_in_memory}
 use Rattle.sasi_layout.specs.Spent.{spent}
 use Rattle.sasi_machine.specs.Outcome.{outcome_of}
-use Rattle.sasi_machine.specs.Prepares.{IsQuery, IsRefusedOrEmpty, IsShowFiles, IsStateOf}
+use Rattle.sasi_machine.specs.Prepares.{IsQuery, IsShowFiles, IsStateOf}
 use Rattle.sasi_machine.specs.declared.outcome.Outcome.{Outcome}
 use Rattle.sasi_model.specs.Parsers.{Parser, grammar_parser}
 use Rattle.sasi_model.specs.Pieces.{Piece}
-use Rattle.sasi_model.specs.Refusals.{ParsedPiece, Says, read, read_by}
+use Rattle.sasi_model.specs.Refusals.{Nothing, ParsedPiece, Says, read, read_by}
+use Rattle.sasi_model.specs.Sessions.{SessionState, refused_by, session_by, turn_by}
 use Rattle.sasi_model.specs.State.{State}
-use Rattle.sasi_model.specs.Step.{step, step_by}
-use Rattle.sasi_types.specs.declared.statement.Statement.TheVariants.{ShowFiles, Trace}
-use Rattle.sasi_store.specs.Worlds.{ServesWorld, World, steps}
+use Rattle.sasi_model.specs.Step.{step}
+use Rattle.sasi_types.specs.declared.statement.Statement.TheVariants.{Fetch, ShowFiles, Trace}
+use Rattle.sasi_store.specs.Worlds.{HasNoCursor, ServesWorld, World, steps}
 
--- The store serves the world after the piece, the reply is that of the world's step, the outcome that of the model's, and no number that the piece needs is spent.
+-- The store serves the world after the piece, the reply is that of the world's step, the outcome that of the model's turn, and no number that the piece needs is spent.
 pub record Answered (v : View) (store : StoreInMemory) (trace : Bool) (w : World) (piece : Piece) (reply : List ℕ) (outcome : Outcome) : Type 0 where
   pub serves : ServesWorld v store trace (steps.after w piece)
   pub reply_is : reply ≡ steps.reply w piece
-  pub outcome_is : outcome ≡ outcome_of (step (state_of w.layout) piece).refused
+  pub outcome_is : outcome ≡ outcome_of (refused_by grammar_parser w.session (state_of w.layout) piece)
   pub unspent : spent w.layout (steps.moves w piece) ≡ None
 
--- A SELECT or SHOW FILES that isn't refused: what it prints comes from the files, or tells of them.
-abbrev pub PrintsStored : Parser → State → Piece → Type 0
-PrintsStored parser s piece = (IsQuery (read_by parser piece) ⊎ IsShowFiles (read_by parser piece)) × ((step_by parser s piece).refused ≡ None)
+-- the piece is a FETCH
+abbrev pub IsFetch : ParsedPiece → Type 0
+IsFetch (Says (Fetch cursor count)) = ⊤
+IsFetch parsed = ⊥
 
--- Whatever the files are: the outcome is that of the model's step, and so is the reply, but where it comes from the files or tells of them. The store has the definitions and the largest timestamp of the state after the piece.
-pub record AnsweredButRows (store : StoreInMemory) (s : State) (piece : Piece) (reply : List ℕ) (outcome : Outcome) : Type 0 where
+-- A SELECT, a FETCH or SHOW FILES that isn't refused: what it prints comes from the files, or tells of them.
+abbrev pub PrintsStored : Parser → SessionState → State → Piece → Type 0
+PrintsStored parser session s piece = (IsQuery (read_by parser piece) ⊎ IsFetch (read_by parser piece) ⊎ IsShowFiles (read_by parser piece)) × (refused_by parser session s piece ≡ None)
+
+-- Whatever the files are, from a session and a state: the outcome is that of the model's turn, and so is the reply, but where it comes from the files or tells of them. The store has the definitions and the largest timestamp of the state after the piece, and no cursor is open in the session after it.
+pub record AnsweredButRows (store : StoreInMemory) (session : SessionState) (s : State) (piece : Piece) (reply : List ℕ) (outcome : Outcome) : Type 0 where
   pub state_is : IsStateOf (known_in_memory store) (step s piece).state
-  pub outcome_is : outcome ≡ outcome_of (step s piece).refused
-  pub reply_is : ¬ (PrintsStored grammar_parser s piece) → reply ≡ (step s piece).reply
+  pub cursors_are : HasNoCursor (session_by grammar_parser session s piece)
+  pub outcome_is : outcome ≡ outcome_of (refused_by grammar_parser session s piece)
+  pub reply_is : ¬ (PrintsStored grammar_parser session s piece) → reply ≡ (turn_by grammar_parser session s piece).reply
 
 -- SHOW FILES, which tells what is in memory, or TRACE
 abbrev pub AsksNoFile : ParsedPiece → Type 0
@@ -39,5 +46,5 @@ AsksNoFile (Says (Trace on)) = ⊤
 AsksNoFile parsed = ⊥
 
 -- the piece is refused, has no reply, or is one of those
-abbrev pub NeedsNoFile : State → Piece → Type 0
-NeedsNoFile s piece = IsRefusedOrEmpty s piece ⊎ AsksNoFile (read piece)
+abbrev pub NeedsNoFile : SessionState → State → Piece → Type 0
+NeedsNoFile session s piece = IsSome (refused_by grammar_parser session s piece) ⊎ (read piece ≡ Nothing) ⊎ AsksNoFile (read piece)

@@ -14,19 +14,20 @@ use Rattle.sasi_types.specs.declared.class.Class.{Class}
 use Rattle.sasi_model.specs.Asked.{NoChange, asks, class_needed}
 use Rattle.sasi_model.specs.Pieces.{Piece}
 use Rattle.sasi_model.specs.Refusals.{read}
+use Rattle.sasi_model.specs.Sessions.{SessionState}
 use Rattle.sasi_model.specs.State.{State}
 use Rattle.sasi_recover.specs.OpenedFolder.{AnyFolderChange}
 use Rattle.sasi_store.specs.Answers.{Answered, AnsweredButRows}
 use Rattle.sasi_store.specs.Faults.{OnMissing, OnSpent, OnStepDamage, StepCauses}
 use Rattle.sasi_store.specs.Frames.{KeepsFilesOf, KeepsListed}
 use Rattle.sasi_store.specs.Selects.{HasShortRows, select_reads}
-use Rattle.sasi_store.specs.Worlds.{ServesWorld, World, steps}
+use Rattle.sasi_store.specs.Worlds.{HasNoCursor, ServesWorld, World, steps}
 use Rattle.sasi_store.specs.declared.fault.StepFault.{StepFault}
 
 -- over analyzers of these classes; TRACE is on or off before it, and after it
 pub record StepPromises (kinds : List Class) (piece : Piece) (a b : View) (old new : StoreInMemory) (was trace : Bool) (reply : List ℕ) (result : Result Outcome StepFault) : Type 0 where
   pub answers : IfOk result (λ outcome. (w : World) → ServesWorld a old was w → Answered b new trace w piece reply outcome)
-  pub everywhere : IfOk result (λ outcome. (s : State) → IsStateOf (known_in_memory old) s → AnsweredButRows new s piece reply outcome)
+  pub everywhere : IfOk result (λ outcome. (x : SessionState) (s : State) → HasNoCursor x → IsStateOf (known_in_memory old) s → AnsweredButRows new x s piece reply outcome)
   pub ready : OnOk result (CanChange b new)
   pub any_moment : (w : World) → ServesWorld a old was w → Changes (λ x y. Between w.layout (steps.moves w piece) y) a b
   pub spent_is : IfErr result (OnSpent (λ kind. (w : World) → ServesWorld a old was w → spent w.layout (steps.moves w piece) ≡ Some kind))

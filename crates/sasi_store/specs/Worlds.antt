@@ -81,7 +81,12 @@ steps = steps_by grammar_parser
 
 -- ---- stores
 
--- A store with this in memory, in which TRACE is on or off, serves the world.
+-- no cursor is open in the session
+abbrev pub HasNoCursor : SessionState → Type 0
+HasNoCursor session = session.cursors ≡ []
+
+-- A store with this in memory, in which TRACE is on or off, serves the world. No cursor is open.
 pub record ServesWorld (v : View) (store : StoreInMemory) (trace : Bool) (w : World) : Type 0 where
   pub serves : Serves v store w.layout
   pub trace_is : trace ≡ w.session.trace
+  pub cursors_are : HasNoCursor w.session

@@ -4,10 +4,12 @@ ghost use Rattle.sasi_layout.specs.Classes.{KnowsClasses};
 ghost use Rattle.sasi_layout.specs.Serving.{CanChange, known_in_memory};
 ghost use Rattle.sasi_machine.specs.Prepares.{IsStateOf};
 ghost use Rattle.sasi_model.specs.Pieces.{piece_of};
+ghost use Rattle.sasi_model.specs.Sessions.{SessionState as ModelSession};
 ghost use Rattle.sasi_model.specs.State.{State};
 ghost use Rattle.sasi_store.specs.Answers.{NeedsNoFile};
 ghost use Rattle.sasi_store.specs.Steps.{StepPromises};
 ghost use Rattle.sasi_store.specs.StoreView.{HasNoneOut, IsOfParts, memory_of};
+ghost use Rattle.sasi_store.specs.Worlds.{HasNoCursor};
 
 use crate::StepFault;
 use crate::create::create;
@@ -20,7 +22,7 @@ use crate::show_files::show_files;
 use crate::write::write;
 use sasi_analyzers::Kit;
 use sasi_host::Host;
-use sasi_machine::{Outcome, Prepared, Reply, prepare};
+use sasi_machine::{Outcome, Prepared, Refusal, Reply, open_refusal, prepare, refuse};
 use sasi_types::{PieceEnd, TableNumber};
 
 /// Answers a piece: prepares it, and makes its moves.
@@ -39,7 +41,7 @@ pub fn step<H: Host>(
     requires none_out { HasNoneOut session.old.views }
     ensures kinds { map (λ b. kind (b.vtable, b.value)) kit.new.objects.items ≡ map (λ b. kind (b.vtable, b.value)) kit.old.objects.items }
     ensures steps { StepPromises (map (λ b. kind (b.vtable, b.value)) kit.old.objects.items) (piece_of end piece.now) (H.view host.old) (H.view host.new) (memory_of parts.old) (memory_of parts.new) session.old.trace session.new.trace reply.new result }
-    ensures no_file_call { (s : State) → IsStateOf (known_in_memory (memory_of parts.old)) s → NeedsNoFile s (piece_of end piece.now) → host.new ≡ host.old }
+    ensures no_file_call { (x : ModelSession) (s : State) → HasNoCursor x → IsStateOf (known_in_memory (memory_of parts.old)) s → NeedsNoFile x s (piece_of end piece.now) → host.new ≡ host.old }
     ensures parts { OnOk result (IsOfParts parts.new) }
     ensures back { HasNoneOut session.new.views }
 {
@@ -85,6 +87,9 @@ pub fn step<H: Host>(
             show_files(parts, &session.views, reply)?;
             Ok(Outcome::Done)
         }
+        Prepared::Open(asked) => Ok(refuse(reply, open_refusal(&asked))?),
+        Prepared::Fetch(asked) => Ok(refuse(reply, Refusal::NoCursor(asked.cursor))?),
+        Prepared::Close(cursor) => Ok(refuse(reply, Refusal::NoCursor(cursor))?),
     }
 }
 

@@ -6,6 +6,7 @@ ghost use Rattle.sasi_host.specs.View.{DiskCauses, counted};
 ghost use Rattle.sasi_model.specs.Asked.{NoChange, asks, class_needed};
 ghost use Rattle.sasi_model.specs.Pieces.{piece_of};
 ghost use Rattle.sasi_model.specs.Refusals.{read};
+ghost use Rattle.sasi_model.specs.Sessions.{SessionState as ModelSession};
 ghost use Rattle.sasi_model.specs.State.{State};
 ghost use Rattle.sasi_folder.specs.Damages.{FolderShows};
 ghost use Rattle.sasi_folder.specs.Opens.{CanOpen};
@@ -25,7 +26,7 @@ ghost use Rattle.sasi_store.specs.Faults.{OnMissing as OnMissingClass, OnSpent, 
 ghost use Rattle.sasi_store.specs.Frames.{KeepsFilesOf, KeepsListed};
 ghost use Rattle.sasi_store.specs.Selects.{HasShortRows, select_reads};
 ghost use Rattle.sasi_store.specs.StoreView.{IsReady};
-ghost use Rattle.sasi_store.specs.Worlds.{ServesWorld, World, new_world, steps};
+ghost use Rattle.sasi_store.specs.Worlds.{HasNoCursor, ServesWorld, World, new_world, steps};
 
 use crate::StepFault;
 use crate::parts::{Parts, parts_of};
@@ -115,7 +116,7 @@ impl Store {
         requires ready { IsReady (H.view host.old) self.old }
         requires classes { KnowsClasses (map (λ b. kind (b.vtable, b.value)) kit.old.objects.items) self.old.memory }
         ensures answers { IfOk result (λ outcome. (w : World) → ServesWorld (H.view host.old) self.old.memory self.old.trace w → Answered (H.view host.new) self.new.memory self.new.trace w (piece_of end piece.now) reply.new outcome) }
-        ensures everywhere { IfOk result (λ outcome. (s : State) → IsStateOf (known_in_memory self.old.memory) s → AnsweredButRows self.new.memory s (piece_of end piece.now) reply.new outcome) }
+        ensures everywhere { IfOk result (λ outcome. (x : ModelSession) (s : State) → HasNoCursor x → IsStateOf (known_in_memory self.old.memory) s → AnsweredButRows self.new.memory x s (piece_of end piece.now) reply.new outcome) }
         ensures ready { OnOk result (IsReady (H.view host.new) self.new) }
         ensures any_moment { (w : World) → ServesWorld (H.view host.old) self.old.memory self.old.trace w → Changes (λ x y. Between w.layout (steps.moves w (piece_of end piece.now)) y) (H.view host.old) (H.view host.new) }
         ensures spent { IfErr result (OnSpent (λ kind. (w : World) → ServesWorld (H.view host.old) self.old.memory self.old.trace w → spent w.layout (steps.moves w (piece_of end piece.now)) ≡ Some kind)) }
@@ -127,7 +128,7 @@ impl Store {
         ensures missing { IfErr result (OnMissingClass (LacksNeeded (map (λ b. kind (b.vtable, b.value)) kit.old.objects.items) (asks (known_in_memory self.old.memory) (piece_of end piece.now)))) }
         ensures damaged { (folder : Folder) → (H.view host.new).files ≡ Some folder → IfErr result (OnStepDamage (FolderShows folder)) }
         ensures undamaged { (w : World) → ServesWorld (H.view host.old) self.old.memory self.old.trace w → IfErr result (OnStepDamage (λ _. ⊥)) }
-        ensures no_file_call { (s : State) → IsStateOf (known_in_memory self.old.memory) s → NeedsNoFile s (piece_of end piece.now) → host.new ≡ host.old }
+        ensures no_file_call { (x : ModelSession) (s : State) → HasNoCursor x → IsStateOf (known_in_memory self.old.memory) s → NeedsNoFile x s (piece_of end piece.now) → host.new ≡ host.old }
         ensures reads_only { asks (known_in_memory self.old.memory) (piece_of end piece.now) ≡ NoChange → Changes Same (H.view host.old) (H.view host.new) }
         ensures unread { (IsQuery (read (piece_of end piece.now)) → ⊥) → (H.view host.new).reads ≡ (H.view host.old).reads }
         // The bound on what a SELECT reads supposes files of at most 2^40 bytes where a relation is on an indexed column.

@@ -5,6 +5,7 @@ use Rattle.sasi_layout.proofs.ClassLaws.{known_created, known_defined}
 use Rattle.sasi_layout.specs.Classes.{HasNeeded, KnowsClasses, LacksNeeded}
 use Rattle.sasi_layout.specs.Layout.{state_of}
 use Rattle.sasi_machine.specs.Prepares.{answer_rows}
+use Rattle.sasi_machine.proofs.SessionTurns.{created_leaves, defined_leaves, flushed_leaves, selected_turns, written_leaves}
 use Rattle.sasi_model.specs.Asked as ask
 use Rattle.sasi_model.specs.Asked.{class_needed}
 use Rattle.sasi_model.specs.Changes.{state_with_index, with_new_table}
@@ -17,9 +18,9 @@ use Rattle.sasi_store.specs.Worlds.{rows_tail, selection_checks}
 use Rattle.sasi_store.proofs.Known.{created_state, defined_state, known_after, known_as, written_state}
 use Rattle.sasi_store.proofs.Prepared.{HasPrepared, blank, blank_definitions, creatable, definable, has_table_for, new_unindexed, selectable, writable}
 use Rattle.sasi_store.proofs.NoFile.{UsesHost, needs_host}
+use Rattle.sasi_store.proofs.StepCursors.{step_closed, step_fetched, step_opened}
 use Rattle.sasi_store.proofs.StepFiles.{step_listed}
 use Rattle.sasi_store.proofs.Stepping.{select_answered, select_failed, select_turns, select_within, state_is, step_answered, step_failed, step_full, step_made, step_missing, step_traced, step_unprepared, trace_left}
-use Rattle.sasi_store.proofs.SessionLaws.{created_leaves, defined_leaves, flushed_leaves, written_leaves}
 use Rattle.sasi_store.proofs.step.step.Goals as goal
 
 pub returns-in_err-outcome-clause-steps : goal.returns-in_err-outcome-clause-steps
@@ -189,7 +190,7 @@ returns-in_ok-select-in-Select-clause-steps g c =
     (λ w serves.
     let all = has.prepares (state_of w.layout) (state_is v (memory_of parts) w.layout serves.serves) in
     select_turns w piece c.in-Select.rows c.args.session.now.trace c.select.new.reply all.0 all.3 serves.trace_is (i.ok w.layout serves.serves ∙ ap (λ (front : List ℕ). front ++ (answer_rows (state_of w.layout) c.in-Select.rows ++ rows_tail c.args.session.now.trace (selection_checks w.layout c.in-Select.rows))) prepared.1))
-    (λ s of. let to = (has.prepares s of).0 in (to.state_is, to.outcome_is))
+    (λ s of. let prepared = has.prepares s of in (prepared.0.state_is, prepared.0.outcome_is, selected_turns s piece c.in-Select.rows prepared.3))
     (select_within v (g.H.Host.view c.select.new.host) (memory_of parts) (blank v parts c.requires.ready) piece c.in-Select.rows (blank_definitions v parts c.requires.ready) prepared.3 c.select.ensures.reads) i.causes)
 
 -- ---- a new index
@@ -244,59 +245,59 @@ returns-in_ok-define-in-Define-clause-steps g c =
 -- ---- pieces that need no file
 
 pub returns-in_err-create-in-Create-clause-no_file_call : goal.returns-in_err-create-in-Create-clause-no_file_call
-returns-in_err-create-in-Create-clause-no_file_call g c s of needs =
+returns-in_err-create-in-Create-clause-no_file_call g c x s none of needs =
     let piece = piece_of c.args.end c.args.piece.now in
-    absurd (needs_host s piece c.prepare.new.reply c.in_ok-outcome.field-0 (c.in_ok-outcome.ensures.prepares s of) (subst UsesHost (sym c.in-Create.is) tt) needs)
+    absurd (needs_host x s piece c.prepare.new.reply c.in_ok-outcome.field-0 (c.in_ok-outcome.ensures.prepares s of) (subst UsesHost (sym c.in-Create.is) tt) needs)
 
 pub returns-in_ok-create-in-Create-clause-no_file_call : goal.returns-in_ok-create-in-Create-clause-no_file_call
-returns-in_ok-create-in-Create-clause-no_file_call g c s of needs =
+returns-in_ok-create-in-Create-clause-no_file_call g c x s none of needs =
     let piece = piece_of c.args.end c.args.piece.now in
-    absurd (needs_host s piece c.prepare.new.reply c.in_ok-outcome.field-0 (c.in_ok-outcome.ensures.prepares s of) (subst UsesHost (sym c.in-Create.is) tt) needs)
+    absurd (needs_host x s piece c.prepare.new.reply c.in_ok-outcome.field-0 (c.in_ok-outcome.ensures.prepares s of) (subst UsesHost (sym c.in-Create.is) tt) needs)
 
 pub returns-in_err-check_class-in-Define-clause-no_file_call : goal.returns-in_err-check_class-in-Define-clause-no_file_call
-returns-in_err-check_class-in-Define-clause-no_file_call g c s of needs =
+returns-in_err-check_class-in-Define-clause-no_file_call g c x s none of needs =
     let piece = piece_of c.args.end c.args.piece.now in
-    absurd (needs_host s piece c.prepare.new.reply c.in_ok-outcome.field-0 (c.in_ok-outcome.ensures.prepares s of) (subst UsesHost (sym c.in-Define.is) tt) needs)
+    absurd (needs_host x s piece c.prepare.new.reply c.in_ok-outcome.field-0 (c.in_ok-outcome.ensures.prepares s of) (subst UsesHost (sym c.in-Define.is) tt) needs)
 
 pub returns-in_err-define-in-Define-clause-no_file_call : goal.returns-in_err-define-in-Define-clause-no_file_call
-returns-in_err-define-in-Define-clause-no_file_call g c s of needs =
+returns-in_err-define-in-Define-clause-no_file_call g c x s none of needs =
     let piece = piece_of c.args.end c.args.piece.now in
-    absurd (needs_host s piece c.prepare.new.reply c.in_ok-outcome.field-0 (c.in_ok-outcome.ensures.prepares s of) (subst UsesHost (sym c.in-Define.is) tt) needs)
+    absurd (needs_host x s piece c.prepare.new.reply c.in_ok-outcome.field-0 (c.in_ok-outcome.ensures.prepares s of) (subst UsesHost (sym c.in-Define.is) tt) needs)
 
 pub returns-in_ok-define-in-Define-clause-no_file_call : goal.returns-in_ok-define-in-Define-clause-no_file_call
-returns-in_ok-define-in-Define-clause-no_file_call g c s of needs =
+returns-in_ok-define-in-Define-clause-no_file_call g c x s none of needs =
     let piece = piece_of c.args.end c.args.piece.now in
-    absurd (needs_host s piece c.prepare.new.reply c.in_ok-outcome.field-0 (c.in_ok-outcome.ensures.prepares s of) (subst UsesHost (sym c.in-Define.is) tt) needs)
+    absurd (needs_host x s piece c.prepare.new.reply c.in_ok-outcome.field-0 (c.in_ok-outcome.ensures.prepares s of) (subst UsesHost (sym c.in-Define.is) tt) needs)
 
 pub returns-in_err-write-in-Write-clause-no_file_call : goal.returns-in_err-write-in-Write-clause-no_file_call
-returns-in_err-write-in-Write-clause-no_file_call g c s of needs =
+returns-in_err-write-in-Write-clause-no_file_call g c x s none of needs =
     let piece = piece_of c.args.end c.args.piece.now in
-    absurd (needs_host s piece c.prepare.new.reply c.in_ok-outcome.field-0 (c.in_ok-outcome.ensures.prepares s of) (subst UsesHost (sym c.in-Write.is) tt) needs)
+    absurd (needs_host x s piece c.prepare.new.reply c.in_ok-outcome.field-0 (c.in_ok-outcome.ensures.prepares s of) (subst UsesHost (sym c.in-Write.is) tt) needs)
 
 pub returns-in_ok-write-in-Write-clause-no_file_call : goal.returns-in_ok-write-in-Write-clause-no_file_call
-returns-in_ok-write-in-Write-clause-no_file_call g c s of needs =
+returns-in_ok-write-in-Write-clause-no_file_call g c x s none of needs =
     let piece = piece_of c.args.end c.args.piece.now in
-    absurd (needs_host s piece c.prepare.new.reply c.in_ok-outcome.field-0 (c.in_ok-outcome.ensures.prepares s of) (subst UsesHost (sym c.in-Write.is) tt) needs)
+    absurd (needs_host x s piece c.prepare.new.reply c.in_ok-outcome.field-0 (c.in_ok-outcome.ensures.prepares s of) (subst UsesHost (sym c.in-Write.is) tt) needs)
 
 pub returns-in_err-flush_unless_empty-in-Flush-clause-no_file_call : goal.returns-in_err-flush_unless_empty-in-Flush-clause-no_file_call
-returns-in_err-flush_unless_empty-in-Flush-clause-no_file_call g c s of needs =
+returns-in_err-flush_unless_empty-in-Flush-clause-no_file_call g c x s none of needs =
     let piece = piece_of c.args.end c.args.piece.now in
-    absurd (needs_host s piece c.prepare.new.reply c.in_ok-outcome.field-0 (c.in_ok-outcome.ensures.prepares s of) (subst UsesHost (sym c.in-Flush.is) tt) needs)
+    absurd (needs_host x s piece c.prepare.new.reply c.in_ok-outcome.field-0 (c.in_ok-outcome.ensures.prepares s of) (subst UsesHost (sym c.in-Flush.is) tt) needs)
 
 pub returns-in_ok-flush_unless_empty-in-Flush-clause-no_file_call : goal.returns-in_ok-flush_unless_empty-in-Flush-clause-no_file_call
-returns-in_ok-flush_unless_empty-in-Flush-clause-no_file_call g c s of needs =
+returns-in_ok-flush_unless_empty-in-Flush-clause-no_file_call g c x s none of needs =
     let piece = piece_of c.args.end c.args.piece.now in
-    absurd (needs_host s piece c.prepare.new.reply c.in_ok-outcome.field-0 (c.in_ok-outcome.ensures.prepares s of) (subst UsesHost (sym c.in-Flush.is) tt) needs)
+    absurd (needs_host x s piece c.prepare.new.reply c.in_ok-outcome.field-0 (c.in_ok-outcome.ensures.prepares s of) (subst UsesHost (sym c.in-Flush.is) tt) needs)
 
 pub returns-in_err-select-in-Select-clause-no_file_call : goal.returns-in_err-select-in-Select-clause-no_file_call
-returns-in_err-select-in-Select-clause-no_file_call g c s of needs =
+returns-in_err-select-in-Select-clause-no_file_call g c x s none of needs =
     let piece = piece_of c.args.end c.args.piece.now in
-    absurd (needs_host s piece c.prepare.new.reply c.in_ok-outcome.field-0 (c.in_ok-outcome.ensures.prepares s of) (subst UsesHost (sym c.in-Select.is) tt) needs)
+    absurd (needs_host x s piece c.prepare.new.reply c.in_ok-outcome.field-0 (c.in_ok-outcome.ensures.prepares s of) (subst UsesHost (sym c.in-Select.is) tt) needs)
 
 pub returns-in_ok-select-in-Select-clause-no_file_call : goal.returns-in_ok-select-in-Select-clause-no_file_call
-returns-in_ok-select-in-Select-clause-no_file_call g c s of needs =
+returns-in_ok-select-in-Select-clause-no_file_call g c x s none of needs =
     let piece = piece_of c.args.end c.args.piece.now in
-    absurd (needs_host s piece c.prepare.new.reply c.in_ok-outcome.field-0 (c.in_ok-outcome.ensures.prepares s of) (subst UsesHost (sym c.in-Select.is) tt) needs)
+    absurd (needs_host x s piece c.prepare.new.reply c.in_ok-outcome.field-0 (c.in_ok-outcome.ensures.prepares s of) (subst UsesHost (sym c.in-Select.is) tt) needs)
 
 -- ---- TRACE
 
@@ -325,3 +326,56 @@ returns-in_ok-show_files-in-Files-clause-steps g c =
     let all : HasPrepared parts piece c.prepare.new.reply c.in_ok-outcome.field-0 = record { asked = e.asked; prepares = e.prepares; timeless = e.timeless; selects = e.selects } in
     let has = subst (HasPrepared parts piece c.prepare.new.reply) c.in-Files.is all in
     step_listed (map (λ b. (goal.Analyzer-dyn g (b.vtable, b.value)).kind b.value) c.args.kit.now.objects.items) (g.H.Host.view c.args.host.now) (g.met.H.Host.sound c.args.host.now) (memory_of parts) piece c.prepare.new.reply c.show_files.new.reply c.requires.ready has.asked has.prepares c.in_ok-show_files-in-Files.ensures
+
+-- ---- statements on cursors
+
+pub returns-in_err-reply_refusal-in-Open-clause-steps : goal.returns-in_err-reply_refusal-in-Open-clause-steps
+returns-in_err-reply_refusal-in-Open-clause-steps g c =
+    let p = err_from_is_err_and c.from_residual-in_err-reply_refusal-in-Open.result c.from_residual-in_err-reply_refusal-in-Open.ensures.1 in
+    rw (p.1, p.2) (step_full (map (λ b. (goal.Analyzer-dyn g (b.vtable, b.value)).kind b.value) c.args.kit.now.objects.items) (g.H.Host.view c.args.host.now) (g.met.H.Host.sound c.args.host.now) (memory_of c.args.parts.now) (piece_of c.args.end c.args.piece.now) c.reply_refusal.new.reply)
+
+pub returns-in_ok-reply_refusal-in-Open-clause-steps : goal.returns-in_ok-reply_refusal-in-Open-clause-steps
+returns-in_ok-reply_refusal-in-Open-clause-steps g c =
+    let v = g.H.Host.view c.args.host.now in
+    let parts = c.args.parts.now in
+    let piece = piece_of c.args.end c.args.piece.now in
+    let e = c.in_ok-outcome.ensures in
+    let all : HasPrepared parts piece c.prepare.new.reply c.in_ok-outcome.field-0 = record { asked = e.asked; prepares = e.prepares; timeless = e.timeless; selects = e.selects } in
+    let has = subst (HasPrepared parts piece c.prepare.new.reply) c.in-Open.is all in
+    let prepared = has.timeless tt (blank v parts c.requires.ready) (blank_definitions v parts c.requires.ready) in
+    step_opened (map (λ b. (goal.Analyzer-dyn g (b.vtable, b.value)).kind b.value) c.args.kit.now.objects.items) v (g.met.H.Host.sound c.args.host.now) (memory_of parts) piece c.prepare.new.reply c.reply_refusal.new.reply _ c.requires.ready has.asked prepared.1
+    c.in-Open.asked _ c.open_refusal.ensures has.prepares c.in_ok-reply_refusal-in-Open.ensures.reply c.in_ok-reply_refusal-in-Open.ensures.outcome
+
+pub returns-in_err-reply_refusal-in-Fetch-clause-steps : goal.returns-in_err-reply_refusal-in-Fetch-clause-steps
+returns-in_err-reply_refusal-in-Fetch-clause-steps g c =
+    let p = err_from_is_err_and c.from_residual-in_err-reply_refusal-in-Fetch.result c.from_residual-in_err-reply_refusal-in-Fetch.ensures.1 in
+    rw (p.1, p.2) (step_full (map (λ b. (goal.Analyzer-dyn g (b.vtable, b.value)).kind b.value) c.args.kit.now.objects.items) (g.H.Host.view c.args.host.now) (g.met.H.Host.sound c.args.host.now) (memory_of c.args.parts.now) (piece_of c.args.end c.args.piece.now) c.reply_refusal-in-Fetch.new.reply)
+
+pub returns-in_ok-reply_refusal-in-Fetch-clause-steps : goal.returns-in_ok-reply_refusal-in-Fetch-clause-steps
+returns-in_ok-reply_refusal-in-Fetch-clause-steps g c =
+    let v = g.H.Host.view c.args.host.now in
+    let parts = c.args.parts.now in
+    let piece = piece_of c.args.end c.args.piece.now in
+    let e = c.in_ok-outcome.ensures in
+    let all : HasPrepared parts piece c.prepare.new.reply c.in_ok-outcome.field-0 = record { asked = e.asked; prepares = e.prepares; timeless = e.timeless; selects = e.selects } in
+    let has = subst (HasPrepared parts piece c.prepare.new.reply) c.in-Fetch.is all in
+    let prepared = has.timeless tt (blank v parts c.requires.ready) (blank_definitions v parts c.requires.ready) in
+    step_fetched (map (λ b. (goal.Analyzer-dyn g (b.vtable, b.value)).kind b.value) c.args.kit.now.objects.items) v (g.met.H.Host.sound c.args.host.now) (memory_of parts) piece c.prepare.new.reply c.reply_refusal-in-Fetch.new.reply _ c.requires.ready has.asked prepared.1
+    c.in-Fetch.asked has.prepares c.in_ok-reply_refusal-in-Fetch.ensures.reply c.in_ok-reply_refusal-in-Fetch.ensures.outcome
+
+pub returns-in_err-reply_refusal-in-Close-clause-steps : goal.returns-in_err-reply_refusal-in-Close-clause-steps
+returns-in_err-reply_refusal-in-Close-clause-steps g c =
+    let p = err_from_is_err_and c.from_residual-in_err-reply_refusal-in-Close.result c.from_residual-in_err-reply_refusal-in-Close.ensures.1 in
+    rw (p.1, p.2) (step_full (map (λ b. (goal.Analyzer-dyn g (b.vtable, b.value)).kind b.value) c.args.kit.now.objects.items) (g.H.Host.view c.args.host.now) (g.met.H.Host.sound c.args.host.now) (memory_of c.args.parts.now) (piece_of c.args.end c.args.piece.now) c.reply_refusal-in-Close.new.reply)
+
+pub returns-in_ok-reply_refusal-in-Close-clause-steps : goal.returns-in_ok-reply_refusal-in-Close-clause-steps
+returns-in_ok-reply_refusal-in-Close-clause-steps g c =
+    let v = g.H.Host.view c.args.host.now in
+    let parts = c.args.parts.now in
+    let piece = piece_of c.args.end c.args.piece.now in
+    let e = c.in_ok-outcome.ensures in
+    let all : HasPrepared parts piece c.prepare.new.reply c.in_ok-outcome.field-0 = record { asked = e.asked; prepares = e.prepares; timeless = e.timeless; selects = e.selects } in
+    let has = subst (HasPrepared parts piece c.prepare.new.reply) c.in-Close.is all in
+    let prepared = has.timeless tt (blank v parts c.requires.ready) (blank_definitions v parts c.requires.ready) in
+    step_closed (map (λ b. (goal.Analyzer-dyn g (b.vtable, b.value)).kind b.value) c.args.kit.now.objects.items) v (g.met.H.Host.sound c.args.host.now) (memory_of parts) piece c.prepare.new.reply c.reply_refusal-in-Close.new.reply _ c.requires.ready has.asked prepared.1
+    c.in-Close.cursor has.prepares c.in_ok-reply_refusal-in-Close.ensures.reply c.in_ok-reply_refusal-in-Close.ensures.outcome

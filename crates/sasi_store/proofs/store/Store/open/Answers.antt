@@ -19,7 +19,7 @@ invariant_of-result g c = (λ usable. c.in-Ok.ensures.parts, new_counted c.new.r
 
 pub returns-clause-serves : goal.returns-clause-serves
 returns-clause-serves g c folder l files shape =
-    record { serves = subst (λ (s : StoreInMemory). Serves (g.H.Host.view c.open.new.host) s l) (sym c.in-Ok.ensures.memory) (c.in_ok-opened.ensures.serves folder l files shape); trace_is = refl }
+    record { serves = subst (λ (s : StoreInMemory). Serves (g.H.Host.view c.open.new.host) s l) (sym c.in-Ok.ensures.memory) (c.in_ok-opened.ensures.serves folder l files shape); trace_is = refl; cursors_are = refl }
 
 pub returns-clause-state : goal.returns-clause-state
 returns-clause-state g c =
