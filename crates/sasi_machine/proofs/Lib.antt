@@ -14,7 +14,7 @@ pub mod KeyLiterals
 pub mod Passed
 pub mod Picked
 pub mod StatementPreparing
-pub mod CursorPreparing
+pub mod SelectPreparing
 pub mod PreparedPieces
 pub mod Printed
 pub mod Stored

@@ -1,5 +1,5 @@
 -- What a machine answers to a session in which no cursor is open.
-use Rattle.std.proofs.Common.{◌≡◌, ◌⊎◌, ◌++◌, Bool, ℕ, List, [], Option, Some, inl, inr, refl, sym, ap, subst, ◌∙◌}
+use Rattle.std.proofs.Common.{◌≡◌, ◌⊎◌, ◌++◌, Bool, ℕ, List, [], Some, inl, inr, sym, ap, subst, ◌∙◌}
 use Rattle.sasi_cells.specs.declared.mutation.Mutation.{Mutation}
 use Rattle.sasi_model.specs.Abbreviations.{NoCursor, first_refusal}
 use Rattle.sasi_model.specs.Lines.{refusal_line}

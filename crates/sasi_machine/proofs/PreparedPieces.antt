@@ -31,7 +31,7 @@ use Rattle.sasi_machine.specs.declared.outcome.Outcome.TheVariants.{Done}
 use Rattle.sasi_machine.specs.declared.prepared.Prepared.{Prepared}
 use Rattle.sasi_machine.specs.declared.prepared.Selection.{Selection}
 use Rattle.sasi_machine.proofs.KnownStates.{is_state_of}
-use Rattle.sasi_machine.proofs.StatementPreparing.{select_asks}
+use Rattle.sasi_machine.proofs.SelectPreparing.{select_asks}
 use Rattle.sasi_machine.proofs.NumberedTables.{defined_at, definition_numbered}
 use Rattle.sasi_machine.proofs.TablesOfMemtables.{definitions_of, memtable_at, memtable_inside}
 

@@ -8,8 +8,8 @@ use Rattle.sasi_cells.specs.declared.mutation.Mutation.{Mutation}
 use Rattle.sasi_model.specs.Abbreviations.{NoCursor, first_refusal}
 use Rattle.sasi_model.specs.Parsers.{grammar_parser}
 use Rattle.sasi_model.specs.Pieces.{Piece}
-use Rattle.sasi_model.specs.Refusals.{Bad, Nothing, ParsedPiece, Refusal, Says, cursor_rules, read, read_by, refusal}
-use Rattle.sasi_model.specs.Sessions.{CheckedTail, Cursor, FilesTail, NoTail, SessionState, Tail, Told, Turn, cursor_names, cursor_refusal, refused_turn, reply_by, tail_bytes, taken_turn, turn_as, turn_by}
+use Rattle.sasi_model.specs.Refusals.{Bad, Nothing, ParsedPiece, Refusal, Says, cursor_rules, read, refusal}
+use Rattle.sasi_model.specs.Sessions.{CheckedTail, FilesTail, NoTail, SessionState, Tail, Told, Turn, cursor_names, cursor_refusal, refused_turn, reply_by, tail_bytes, taken_turn, turn_as, turn_by}
 use Rattle.sasi_model.specs.State.{State}
 use Rattle.sasi_model.specs.Step.{StepResult, answer_of, execute, refused_step, step, step_as, step_by}
 use Rattle.sasi_model.specs.Tokens.{same}

@@ -2,12 +2,11 @@
 use Rattle.std.proofs.Common.{◌≡◌, Bool, inl, drop, is_some, ℕ, zero, suc, ◌+◌, ◌-◌, ◌<◌, List, [], ◌∷◌, ◌++◌, length, map, set, slice_get, Option, IsSome, Some, None, Result, Ok, Err, IfOk, refl, sym, ap, subst, ◌∙◌, arith}
 use Rattle.std.specs.Prelude.{max}
 use Rattle.std.specs.FinMap as fin
-use Rattle.std.specs.Option.{option_map, option_map_or}
+use Rattle.std.specs.Option.{option_map_or}
 use Rattle.std.proofs.lemmas.List.{append-nil, length-map}
 use Rattle.sasi_types.specs.declared.partitioner.Partitioner.{Partitioner}
 use Rattle.sasi_types.specs.declared.partitioner.Partitioner.TheVariants.{Lead8}
 use Rattle.sasi_types.specs.declared.index_def.IndexDef.{IndexDef}
-use Rattle.sasi_types.specs.declared.statement.Select.{Select}
 use Rattle.sasi_types.specs.declared.statement.Statement.{Statement}
 use Rattle.sasi_types.specs.declared.statement.Statement.TheVariants.{CloseCursor, CreateTable, CreateIndex, Fetch, Flush, OpenCursor, Query, ShowFiles, Trace}
 use Rattle.sasi_cells.proofs.Laws.Times.{body_limit}
@@ -17,18 +16,17 @@ use Rattle.sasi_model.specs.Asked.{asks, parsed_asks}
 use Rattle.sasi_model.specs.Cells.{Partition, max_timestamp_of}
 use Rattle.sasi_model.specs.Abbreviations.{key_position, max_timestamp_of_tables, definitions, ok_line, NoTable, TableExists, first_refusal, new_definition, key_type, types_of}
 use Rattle.sasi_model.specs.Stored.{IsBodyOf, IsValueOf, column_types}
-use Rattle.sasi_model.specs.WellFormed.{IsWellFormed, IsWellFormedSelect}
+use Rattle.sasi_model.specs.WellFormed.{IsWellFormed}
 use Rattle.sasi_types.specs.declared.column.ColumnType.{ColumnType}
 use Rattle.sasi_types.specs.declared.column.ColumnType.TheVariants as types
 use Rattle.sasi_machine.proofs.StatementBodies.{change_fits}
 use Rattle.sasi_model.specs.Changes.{changed_tables, empty_table, state_with_index, with_new_table}
 use Rattle.sasi_model.specs.Indexes.{index_of}
 use Rattle.sasi_model.specs.Pieces.{Piece}
-use Rattle.sasi_model.specs.Refusals.{Known, Refusal, RefusalRule, Says, create_rules, flush_rules, known_of, read, refusal, rules, select_rules}
+use Rattle.sasi_model.specs.Refusals.{Known, Refusal, RefusalRule, Says, create_rules, flush_rules, known_of, read, refusal, rules}
 use Rattle.sasi_model.specs.State as model
 use Rattle.sasi_model.specs.State.{Column, Definition, State, definition_of, max_timestamp, decorated}
-use Rattle.sasi_model.specs.Step.{StepResult, answer_of, execute, primary_key, refused_step as refused_as, select_lines, step, step_as, step_by}
-use Rattle.sasi_schema.specs.Answers.{IsFirstRefusal}
+use Rattle.sasi_model.specs.Step.{StepResult, execute, primary_key, refused_step as refused_as, step, step_as, step_by}
 use Rattle.sasi_schema.specs.Defined.{definition}
 use Rattle.sasi_schema.specs.Numbers.{number_of_table}
 use Rattle.sasi_schema.specs.SchemaViews.{index_of_new}
@@ -43,10 +41,8 @@ use Rattle.sasi_machine.specs.declared.prepared.Selection.{Selection}
 use Rattle.sasi_cells.specs.declared.mutation.Mutation.{Mutation}
 use Rattle.sasi_memtable.specs.MemtableView.{MemtableView, empty_memtable}
 use Rattle.sasi_machine.specs.Outcome.{outcome_of}
-use Rattle.sasi_machine.specs.Operands.{CanSelect}
 use Rattle.sasi_cells.specs.Mutations.{state_with_mutation}
 use Rattle.sasi_machine.specs.Prepares.{AsksFiles, CanBeDone, ClosesCursor, CreatesTable, DefinesIndex, FetchesRows, FlushesTable, HasRows, HasTable, IsAddable, IsApplicable, IsListing, IsNewTable, IsPrepared, IsPreparedFor, IsQuery, IsSelect, IsShowFiles, IsStateOf, IsTimeless, OpensCursor, Prepares, StatementPrepares, SelectsRows, StepsTo, WritesTo, answer_rows, asked_by}
-use Rattle.sasi_machine.specs.Selections.{PreparesRows}
 use Rattle.sasi_machine.specs.TableRows.{AreStored}
 use Rattle.sasi_machine.specs.Tables.{AreMemtables, IsMachineState, HasMemtableFor, IsWrittenAt, state_of, tables_of, written}
 use Rattle.sasi_machine.specs.StatementSteps.{IsRefused, StatementStepsTo}
@@ -157,66 +153,6 @@ files_asks known reply = record {
   asked_is = refl;
   of_state = λ s of. (takes s ShowFiles s reply reply (outcome_of None) (not_refused s known ShowFiles of refl) refl (sym (append-nil reply)) refl, not_refused s known ShowFiles of refl);
 }
-
--- ---- SELECT
-
-pub first_is : (rules : List RefusalRule) → IsFirstRefusal (first_refusal rules) rules
-first_is rules = by (first_refusal rules) refl
-  where
-    by : (o : Option Refusal) → first_refusal rules ≡ o → IsFirstRefusal o rules
-    by None is = tt
-    by (Some r) is = is
-
-answer_is : (s : State) (select : Select) (rows : Selection) (found : model.Table) → model.table_of select.table s.tables ≡ Some found → slice_get s.tables (rows.table - 1) ≡ Some found
-    → rows.select ≡ select → answer_of s (Query select) ≡ answer_rows s rows
-answer_is s select rows found named there is =
-    ap (λ (o : Option model.Table). option_map_or (λ t. select_lines t.definition select (fin.entries t.partitions)) o []) named
-    ∙ ap (λ (q : Select). select_lines found.definition q (fin.entries found.partitions)) (sym is)
-    ∙ ap (λ (o : Option model.Table). option_map_or (λ t. select_lines t.definition rows.select (fin.entries t.partitions)) o []) (sym there)
-
--- it isn't refused on its table
-can_select : (select asked : Select) (d e : Definition) → IsWellFormedSelect select → first_refusal (select_rules select (Some d)) ≡ None → e ≡ d → asked ≡ select → CanSelect e asked
-can_select select asked d e written none same is = record { written = subst IsWellFormedSelect (sym is) written; taken = rw (same, is) none }
-
-pub select_asks : (known : Known) (select : Select) (found : Option Table) (reply_old reply_new : List ℕ) (prepared : Prepared) → IsWellFormedSelect select
-    → option_map definition found ≡ definition_of select.table known.tables → option_map (λ (t : Table). t.number) found ≡ number_of_table select.table known.tables
-    → PreparesRows found select reply_old reply_new prepared → IsPrepared known (Query select) reply_old reply_new prepared
-select_asks known select found reply_old reply_new (Answered outcome) written defined numbered prepares =
-    let refused = first_refusal (select_rules select (option_map definition found)) in
-    refuses known (Query select) refused reply_old reply_new outcome (subst (λ (o : Option Definition). IsFirstRefusal refused (select_rules select o)) defined (first_is (select_rules select (option_map definition found)))) prepares
-select_asks known select found reply_old reply_new (Traces on) written defined numbered prepares = absurd prepares
-select_asks known select found reply_old reply_new ListsFiles written defined numbered prepares = absurd prepares
-select_asks known select found reply_old reply_new (Opens asked) written defined numbered prepares = absurd prepares
-select_asks known select found reply_old reply_new (Fetches asked) written defined numbered prepares = absurd prepares
-select_asks known select found reply_old reply_new (Closes cursor) written defined numbered prepares = absurd prepares
-select_asks known select None reply_old reply_new (Selects rows) written defined numbered prepares = absurd prepares.2
-select_asks known select (Some t) reply_old reply_new (Selects rows) written defined numbered prepares =
-    let none : first_refusal (rules known (Query select)) ≡ None = subst (λ (o : Option Definition). first_refusal (select_rules select o) ≡ None) defined prepares.0 in
-    record {
-      asked_is = taken_asks known (Query select) none;
-      of_state = λ s of.
-          let here : number_of_table select.table (definitions s.tables) ≡ Some t.number = ap (number_of_table select.table) (definitions_are known s of) ∙ sym numbered in
-          let at = table_numbered select.table s.tables t.number (definition t) here (ap (definition_of select.table) (definitions_are known s of) ∙ sym defined) in
-          let there : slice_get s.tables (rows.table - 1) ≡ Some at.table = ap (λ (n : ℕ). slice_get s.tables (n - 1)) prepares.2.number ∙ at.there in (
-            prepares.1,
-            record {
-              taken = not_refused s known (Query select) of none;
-              select_is = prepares.2.select_is;
-              answer = answer_is s select rows at.table at.found there prepares.2.select_is;
-              has = record {
-                some = omega (arith, number_some select.table (definitions s.tables) t.number here, prepares.2.number);
-                table = at.table;
-                there = there;
-                named = ap (λ (q : Select). number_of_table q.table (definitions s.tables)) prepares.2.select_is ∙ here ∙ ap Some (sym prepares.2.number);
-                can = can_select select rows.select (definition t) at.table.definition written prepares.0 at.definition_is prepares.2.select_is;
-              };
-            },
-          );
-    }
-select_asks known select found reply_old reply_new (Create t) written defined numbered prepares = absurd prepares
-select_asks known select found reply_old reply_new (Define new) written defined numbered prepares = absurd prepares
-select_asks known select found reply_old reply_new (Writes w) written defined numbered prepares = absurd prepares
-select_asks known select found reply_old reply_new (Flushes table) written defined numbered prepares = absurd prepares
 
 -- ---- every statement
 

@@ -1,4 +1,4 @@
-use Rattle.sasi_machine.proofs.CursorPreparing.{close_asks}
+use Rattle.sasi_machine.proofs.SelectPreparing.{close_asks}
 use Rattle.sasi_machine.proofs.preparing.prepare_close.Goals as goal
 
 pub returns : goal.returns

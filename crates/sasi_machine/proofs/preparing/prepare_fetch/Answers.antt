@@ -1,4 +1,4 @@
-use Rattle.sasi_machine.proofs.CursorPreparing.{fetch_asks, fetch_refused}
+use Rattle.sasi_machine.proofs.SelectPreparing.{fetch_asks, fetch_refused}
 use Rattle.sasi_machine.proofs.preparing.prepare_fetch.Goals as goal
 
 pub returns-in-Some : goal.returns-in-Some

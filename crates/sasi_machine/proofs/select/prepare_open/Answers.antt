@@ -2,7 +2,7 @@ use Rattle.std.proofs.Common.{map, sym}
 use Rattle.sasi_schema.specs.Defined.{definition}
 use Rattle.sasi_machine.specs.Classes.{TableLacks, TablesLack}
 use Rattle.sasi_machine.specs.Prepares.{known_by}
-use Rattle.sasi_machine.proofs.CursorPreparing.{cursor_absent, cursor_any}
+use Rattle.sasi_machine.proofs.SelectPreparing.{cursor_absent, cursor_any}
 use Rattle.sasi_machine.proofs.Lacking.{definition_there, memory_alone, missing_result}
 use Rattle.sasi_machine.proofs.select.prepare_open.Goals as goal
 
