@@ -83,7 +83,7 @@ pub opened_turn : (s : State) (piece : Piece) (cleared reply : List ℕ) (outcom
 opened_turn s piece cleared reply outcome asked r prepares first reply_is outcome_is =
     as_refused s piece r cleared reply outcome
     (λ x empty. opened_refused s piece asked prepares.2 x r
-        (ap (λ (cursors : List Cursor). first_refusal (cursor_rules (cursor_names (record x { cursors = cursors })) (OpenCursor asked.cursor asked.rows.select))) empty ∙ first))
+    (ap (λ (cursors : List Cursor). first_refusal (cursor_rules (cursor_names (record x { cursors = cursors })) (OpenCursor asked.cursor asked.rows.select))) empty ∙ first))
     prepares.1 reply_is outcome_is
 
 pub fetched_turn : (s : State) (piece : Piece) (cleared reply : List ℕ) (outcome : Outcome) (asked : FetchAsked) → Prepares s piece cleared (Fetches asked)

@@ -66,7 +66,7 @@ refused_leaves s piece is = parsed_turns s piece (read piece) (λ x. x) (λ x. N
 said_turns : (s : State) (piece : Piece) (P : Statement → Type 0) (after : SessionState → SessionState) (tail : SessionState → Tail) → SaysOne piece P
     → ((statement : Statement) → P statement → refusal s statement ≡ None)
     → ((statement : Statement) → P statement → (x : SessionState)
-        → option_map_or (refused_turn x) (cursor_refusal x statement) (taken_turn x s statement) ≡ record { session = after x; reply = answer_of s statement; tail = tail x; refused = None })
+    → option_map_or (refused_turn x) (cursor_refusal x statement) (taken_turn x s statement) ≡ record { session = after x; reply = answer_of s statement; tail = tail x; refused = None })
     → TurnsSession s piece after tail
 said_turns s piece P after tail (statement, says, well, is) taken turns =
     parsed_turns s piece (Says statement) after tail says (λ x. rw (taken statement is) (turns statement is x))

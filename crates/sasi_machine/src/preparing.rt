@@ -84,7 +84,14 @@ fn prepare_statement(
 {
     match statement {
         Statement::Query { select } => prepare_select(builder.alloc, schema, select, kit, reply),
-        Statement::OpenCursor { cursor, select } => prepare_open(builder.alloc, schema, cursor, select, kit, reply),
+        Statement::OpenCursor { cursor, select } => prepare_open(
+            builder.alloc,
+            schema,
+            cursor,
+            select,
+            kit,
+            reply,
+        ),
         other => Ok(prepare_other(builder, schema, other, reply)?),
     }
 }

@@ -132,11 +132,7 @@ fn check_cursors(rt: &impl Abort, machine: &mut Machine, reply: &mut Reply) {
             9,
             "error 9 NumberRange FETCH\n",
         ),
-        (
-            b"FETCH 1 FROM c;".as_slice(),
-            23,
-            "error 23 NoCursor c\n",
-        ),
+        (b"FETCH 1 FROM c;".as_slice(), 23, "error 23 NoCursor c\n"),
         (b"CLOSE c;".as_slice(), 23, "error 23 NoCursor c\n"),
     ] {
         check_step(rt, machine, reply, piece, Outcome::Refused(number), want);

@@ -32,12 +32,12 @@ fn is_listing(prepared: &Prepared) -> bool {
 
 /// At most so many rows of the cursor `c` are to be printed.
 fn is_fetch(prepared: &Prepared, count: u32) -> bool {
-    matches!(prepared, Prepared::Fetch(asked) if asked.count == count && asked.cursor.bytes() == b"c")
+    matches!(prepared, Prepared::Fetch(asked) if asked.count == count && asked.cursor.bytes() == b"c".as_slice())
 }
 
 /// The cursor `c` is to be closed.
 fn is_close(prepared: &Prepared) -> bool {
-    matches!(prepared, Prepared::Close(cursor) if cursor.bytes() == b"c")
+    matches!(prepared, Prepared::Close(cursor) if cursor.bytes() == b"c".as_slice())
 }
 
 #[test]
