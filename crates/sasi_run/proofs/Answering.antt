@@ -12,7 +12,7 @@ use Rattle.sasi_layout.specs.Classes.{HasNeeded, LacksNeeded}
 use Rattle.sasi_layout.specs.Serving.{known_in_memory}
 use Rattle.sasi_layout.specs.Statements.{known_in}
 use Rattle.sasi_layout.specs.Spent.{spent}
-use Rattle.sasi_store.specs.Worlds.{ServesWorld, World, steps}
+use Rattle.sasi_store.specs.Worlds.{HasNoCursor, ServesWorld, World, steps}
 use Rattle.sasi_layout.proofs.StatementLaws.{known_is}
 use Rattle.sasi_model.specs.Pieces.{Piece}
 use Rattle.sasi_model.specs.Asked.{Asked, asks, class_needed}
@@ -127,7 +127,7 @@ pub record StepDone (kinds : List Class) (session : Session) (later : StoreView)
   pub change : Changes AnyFolderChange a b
   pub moments : (w : World) → ServesWorld a session.store.memory session.store.trace w → Changes (λ x y. Between w.layout (steps.moves w piece) y) a b
   pub answers : (w : World) → ServesWorld a session.store.memory session.store.trace w → Answered b later.memory later.trace w piece reply outcome
-  pub anywhere : (x : SessionState) (s : State) → IsOfState session.store x s → AnsweredButRows later.memory x s piece reply outcome
+  pub anywhere : (x : SessionState) (s : State) → HasNoCursor x → IsStateOf (known_in_memory session.store.memory) s → AnsweredButRows later.memory x s piece reply outcome
   pub analyzer : HasNeeded kinds (class_needed (asks (known_in_memory session.store.memory) piece))
 
 module _ {kinds : List Class} (session : Session) (later : StoreView) (a b d : View) (piece : Piece) (reply bytes : List ℕ) (outcome : Outcome)
@@ -141,7 +141,7 @@ module _ {kinds : List Class} (session : Session) (later : StoreView) (a b d : V
   pub fails_shown : d.emits ≡ counted b.emits → FailsCrashSafe kinds Output session a d (piece ∷ [])
   fails_shown once = record {
     anywhere = λ x s of.
-        let is = done.anywhere x s of in
+        let is = done.anywhere x s of.cursors of.known in
         record {
           shown = emits.front;
           emitted = subst (λ (l : Option (List ℕ)). Appends l d.emitted emits.front) done.change.emitted emits.out;
@@ -175,7 +175,7 @@ module _ {kinds : List Class} (session : Session) (later : StoreView) (a b d : V
   answers_on new store_is small count reading ready all call = record {
     reading = reading;
     anywhere = λ x s of.
-        let is = done.anywhere x s of in
+        let is = done.anywhere x s of.cursors of.known in
         record {
           state = subst (λ (k : StoreView). IsOfState k (session_by grammar_parser x s piece) (state_after s (piece ∷ []))) (sym store_is) (record { known = is.state_is; cursors = is.cursors_are });
           shown = bytes;

@@ -386,7 +386,7 @@ select_turns w piece rows was reply to says on reply_is =
           ∙ sym reply_is,
     )
 
-pub none_refused : (o : Option Refusal) → Done ≡ outcome_of o → o ≡ None
+none_refused : (o : Option Refusal) → Done ≡ outcome_of o → o ≡ None
 none_refused None done = refl
 none_refused (Some r) done = cc
 
