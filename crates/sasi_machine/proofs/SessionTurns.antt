@@ -1,14 +1,15 @@
 -- What pieces make of a session, and what it answers to them.
 use Rattle.std.proofs.Common.{◌≡◌, ◌⊎◌, Bool, true, false, ℕ, List, [], Option, None, Some, IsSome, inl, inr, refl, ap, sym, ◌∙◌}
+use Rattle.std.proofs.lemmas.List.{append-nil}
 use Rattle.std.specs.List.{list_any}
 use Rattle.std.specs.Option.{option_map_or}
-use Rattle.std.specs.Prelude.{cond}
+use Rattle.std.specs.Prelude.{◌++◌, cond}
 use Rattle.sasi_cells.specs.declared.mutation.Mutation.{Mutation}
 use Rattle.sasi_model.specs.Abbreviations.{NoCursor, first_refusal}
 use Rattle.sasi_model.specs.Parsers.{grammar_parser}
 use Rattle.sasi_model.specs.Pieces.{Piece}
 use Rattle.sasi_model.specs.Refusals.{Bad, Nothing, ParsedPiece, Refusal, Says, cursor_rules, read, refusal}
-use Rattle.sasi_model.specs.Sessions.{CheckedTail, FilesTail, NoTail, SessionState, Tail, Told, Turn, cursor_names, cursor_refusal, refused_turn, tail_bytes, taken_turn, turn_as, turn_by}
+use Rattle.sasi_model.specs.Sessions.{CheckedTail, FilesTail, NoTail, SessionState, Tail, Told, Turn, cursor_names, cursor_refusal, refused_turn, reply_by, tail_bytes, taken_turn, turn_as, turn_by}
 use Rattle.sasi_model.specs.State.{State}
 use Rattle.sasi_model.specs.Step.{StepResult, answer_of, execute, refused_step, step, step_as, step_by}
 use Rattle.sasi_model.specs.Tokens.{same}
@@ -31,6 +32,10 @@ pub record TurnsSession (s : State) (piece : Piece) (after : SessionState → Se
 -- it leaves each session, and its reply has no tail
 abbrev pub LeavesSession : State → Piece → Type 0
 LeavesSession s piece = TurnsSession s piece (λ x. x) (λ x. NoTail)
+
+-- so the reply is that of the model
+pub plain_reply : (s : State) (piece : Piece) (after : SessionState → SessionState) → TurnsSession s piece after (λ x. NoTail) → (x : SessionState) (told : Told) → reply_by grammar_parser x s piece told ≡ (step s piece).reply
+plain_reply s piece after turns x told = ap (λ (t : Turn). t.reply ++ tail_bytes t.tail told) (turns.turn_is x) ∙ append-nil (step s piece).reply
 
 -- what a step answers, with this tail
 abbrev turned : SessionState → StepResult → Tail → Turn

@@ -24,7 +24,7 @@ use Rattle.sasi_layout.specs.declared.number_kind.NumberKind.{NumberKind}
 use Rattle.sasi_machine.proofs.KnownStates.{knows}
 use Rattle.sasi_machine.specs.Classes as kits
 use Rattle.sasi_machine.specs.Outcome.{outcome_of}
-use Rattle.sasi_machine.proofs.SessionTurns.{LeavesSession, TurnsSession, refused_leaves, selected_turns, tail_checked, traced_turns}
+use Rattle.sasi_machine.proofs.SessionTurns.{LeavesSession, TurnsSession, plain_reply, refused_leaves, selected_turns, tail_checked, traced_turns}
 use Rattle.sasi_machine.specs.Prepares.{IsQuery, IsRefusedOrEmpty, IsStateOf, SaysOne, SelectsRows, StepsTo, TurnsTrace, answer_rows}
 use Rattle.sasi_machine.specs.declared.prepared.Selection.{Selection}
 use Rattle.sasi_machine.specs.declared.outcome.Outcome.{Outcome}
@@ -153,7 +153,7 @@ module _ {T : Type 0} (kinds : List Class) (a b : View) (old new : StoreInMemory
             trace_is = serves.trace_is ∙ ap (λ (t : Turn). t.session.trace) (sym turned.turn_is);
             cursors_are = subst (λ (t : Turn). HasNoCursor t.session) (sym turned.turn_is) serves.cursors_are;
           };
-          reply_is = sym (reply_turned w piece w.session reply Done turned);
+          reply_is = sym (plain_reply (state_of w.layout) piece (λ x. x) (leaves (state_of w.layout) of) w.session (told_in w.layout (read piece)) ∙ to.reply_is);
           outcome_is = turned.outcome_is ∙ ap (λ (t : Turn). outcome_of t.refused) (sym turned.turn_is);
           unspent = ap (spent w.layout) (moves_are a old piece asked is w.layout serves.serves) ∙ makes.unspent w.layout serves.serves;
         };
