@@ -1,5 +1,7 @@
 -- Indexes that are added to the map of a table.
-use Rattle.std.proofs.Common.{◌≡◌, ℕ, zero, suc, ◌+◌, true, false, List, [], ◌∷◌, ◌++◌, length, map, set, slice_get, take, Option, None, Some, refl, sym, ap, subst, ◌∙◌, append_assoc, arith}
+use Rattle.std.proofs.Common.{◌≡◌, ℕ, zero, suc, ◌+◌, true, false, List, [], ◌∷◌, ◌++◌, length, map, set, slice_get, take, Option, None, Some, refl, sym, ap, subst, ◌∙◌, append_assoc, inl, arith}
+use Rattle.std.specs.Prelude.{Contains}
+use Rattle.std.proofs.lemmas.List.Elements.{Contains-append_left, Contains-push}
 use Rattle.std.proofs.lemmas.List.{append-nil, map-append}
 use Rattle.std.specs.FinMap.{get}
 use Rattle.std.specs.List.{AllByRecursion}
@@ -18,8 +20,8 @@ use Rattle.sasi_memindex.specs.MemIndexView.{MemIndexView, subject}
 use Rattle.sasi_memindex.proofs.AddedIndexes.{added_kept}
 use Rattle.sasi_memtable.specs.MemtableView.{MemtableView, empty_memtable}
 use Rattle.sasi_store.specs.declared.table_maps.TableMaps.{TableMaps}
-use Rattle.sasi_store.specs.Held.{AreAdded, AreMapped, CanAddAll, HasIndexes, KnowsDef, OthersStay, Subject, held_by, held_of, subject_of}
-use Rattle.sasi_store.proofs.HeldMaps.{held_set, held_there, mapped_set}
+use Rattle.sasi_store.specs.Held.{AreAdded, AreMapped, CanAddAll, HasIndexes, KnowsDef, Subject, held_by, held_of, map_in, numbers_of, subject_of}
+use Rattle.sasi_store.proofs.HeldMaps.{OtherTablesStay, first_in, held_set, held_there, later_in, mapped_set}
 
 -- ---- one after another
 
@@ -91,19 +93,31 @@ now_indexed defs before (Some old) None on has = absurd on
 now_indexed defs before (Some old) (Some new) on has = record { subjects_are = on.subjects_are ∙ ap (λ (l : List Subject). l ++ map subject_of defs) has.subjects_are; kept = on.kept has.kept }
 
 module _ (book : Book) (last : ℕ) (wanted : List (List Subject)) (ts : List TableMaps) (mapped : AreMapped book last wanted ts) (at : ℕ) (t : TableMaps) (there : slice_get ts at ≡ Some t)
-    (defs : List IndexDef) (after : Book) (added : AreAdded defs (get book t.memtable) (get after t.memtable)) (others : OthersStay t.memtable book after) where
+    (defs : List IndexDef) (after : Book) (added : (number : ℕ) → Contains (numbers_of t) number → AreAdded defs (get book number) (get after number)) (others : (number : ℕ) → (Contains (numbers_of t) number → ⊥) → get after number ≡ get book number) where
+  stay : OtherTablesStay at ts book after
+  stay i x number differ found has = others number (λ own. differ (mapped.apart i at x t number found there has own))
+
+  maps_kept : (ns : List ℕ) → ((number : ℕ) → Contains ns number → Contains (numbers_of t) number) → map (map_in after) ns ≡ map (map_in book) ns
+  maps_kept [] own = refl
+  maps_kept (n ∷ ns) own =
+      let here : map_in after n ≡ map_in book n = same_map defs (get book n) (get after n) (added n (own n (first_in n ns))) in
+      let rest = maps_kept ns (λ k has. own k (later_in n ns k has)) in
+      λ i. here i ∷ rest i
+
   pub indexed_held : held_of after ts ≡ held_of book ts
   indexed_held =
-      let seen : held_by after t ≡ held_by book t = ap (λ (v : MemtableView). record { number = t.number; memtable = v; first = t.first }) (same_map defs (get book t.memtable) (get after t.memtable) added) in
-      ap (held_of after) (sym (set_same ts at t there)) ∙ held_set book after ts at t t there mapped.apart others
+      let frozen = maps_kept t.frozen (λ number has. Contains-append_left t.frozen (t.memtable ∷ []) number has) in
+      let memtable = same_map defs (get book t.memtable) (get after t.memtable) (added t.memtable (Contains-push t.frozen t.memtable)) in
+      let seen : held_by after t ≡ held_by book t = λ i. record { number = t.number; frozen = frozen i; memtable = memtable i; first = t.first } in
+      ap (held_of after) (sym (set_same ts at t there)) ∙ held_set book after ts at t t there stay
       ∙ ap (set (held_of book ts) at) seen ∙ set_same (held_of book ts) at (held_by book t) (held_there book ts at t there)
 
   pub indexed_mapped : (before : List Subject) → slice_get wanted at ≡ Some before → (also : List (List Subject)) → length also ≡ length wanted → ((i : ℕ) → (i ≡ at → ⊥) → slice_get also i ≡ slice_get wanted i)
       → slice_get also at ≡ Some (before ++ map subject_of defs) → AreMapped after last also ts
   indexed_mapped before had also counted same now =
       subst (AreMapped after last also) (set_same ts at t there)
-      (mapped_set book last wanted ts mapped after also at t t there refl others counted same
-      (λ found is.
+      (mapped_set book last wanted ts mapped after last also at t t there (omega arith) (λ number has. inl has) (mapped.rising at t there) stay counted same
+      (λ found number is has.
       let one : before ++ map subject_of defs ≡ found = (let both : Some (before ++ map subject_of defs) ≡ Some found = sym now ∙ is in cc) in
-      subst (λ (s : List Subject). HasIndexes s (get after t.memtable)) one
-      (now_indexed defs before (get book t.memtable) (get after t.memtable) added (mapped.indexed at t before there had))))
+      subst (λ (s : List Subject). HasIndexes s (get after number)) one
+      (now_indexed defs before (get book number) (get after number) (added number has) (mapped.indexed at t before number there had has))))

@@ -1,9 +1,7 @@
 -- Moves after moves, and moves that are made where a table's maps pass a test.
-use Rattle.std.proofs.Common.{◌≡◌, ◌≤◌, ◌<◌, ◌-◌, ◌+◌, ◌^◌, ℕ, zero, suc, Bool, true, false, cond, nat_eq, nat_le, List, [], ◌∷◌, ◌++◌, length, slice_get, Option, None, Some, Result, Ok, Err, refl, sym, ap, subst, ◌∙◌, arith}
-use Rattle.std.specs.Prelude.{IfErr, OnOk, ◌||◌}
+use Rattle.std.proofs.Common.{◌≡◌, ◌<◌, ◌-◌, ◌+◌, ℕ, zero, suc, Bool, true, false, cond, nat_eq, List, [], ◌∷◌, slice_get, Option, None, Some, Result, Ok, Err, refl, sym, ap, subst, ◌∙◌, arith}
+use Rattle.std.specs.Prelude.{IfErr, OnOk}
 use Rattle.std.proofs.lemmas.Bool.Decides.{nat_tests}
-use Rattle.std.specs.FinMap as map_
-use Rattle.std.specs.List.{sum_by}
 use Rattle.std.specs.Option.{option_map_or}
 use Rattle.sasi_host.proofs.ChangeLaws.{changes_on, stays}
 use Rattle.sasi_host.specs.Disk.{Changes, Same}
@@ -15,12 +13,12 @@ use Rattle.sasi_layout.specs.Layout.{Layout, TableParts, unflushed}
 use Rattle.sasi_layout.specs.Moves.{Flush, Move, Put, after_moves, after_put}
 use Rattle.sasi_layout.specs.Serving.{CanChange, Serves, StoreInMemory, TableInMemory, table_in_memory}
 use Rattle.sasi_layout.specs.Spent.{spent}
-use Rattle.sasi_layout.specs.Statements.{are_full, flush_where, numbered, tests_unflushed}
+use Rattle.sasi_layout.specs.Statements.{flush_where, numbered, tests_unflushed}
 use Rattle.sasi_layout.specs.declared.number_kind.NumberKind.{NumberKind}
-use Rattle.sasi_memtable.specs.Sizes.{bytes_in, cells_in}
 use Rattle.sasi_model.specs.Abbreviations.{Partitions}
 use Rattle.sasi_recover.specs.OpenedFolder.{AnyFolderChange}
 use Rattle.sasi_store.specs.Faults.{OnSpent, StepCauses}
+use Rattle.sasi_store.specs.Held.{unflushed_maps}
 use Rattle.sasi_store.specs.MakesMoves.{MakesMoves, MovesOf}
 use Rattle.sasi_store.specs.declared.fault.StepFault.{StepFault}
 use Rattle.sasi_store.specs.declared.fault.StepFault.TheVariants as fault
@@ -124,23 +122,21 @@ numbered_at number xs x some there =
     let e : 1 + (number - 1) ≡ number = omega (arith, some) in
     ap (λ (k : ℕ). numbered 1 k xs) (sym e) ∙ numbered_behind 1 (number - 1) xs x there
 
-module _ (test : List Partitions → Bool) (table : ℕ) (v : View) (store : StoreInMemory) (h : TableInMemory) (some : 0 < table) (there : slice_get store.tables (table - 1) ≡ Some h) (idle : h.frozen ≡ []) where
+module _ (test : List Partitions → Bool) (table : ℕ) (v : View) (store : StoreInMemory) (h : TableInMemory) (some : 0 < table) (there : slice_get store.tables (table - 1) ≡ Some h) where
   -- the test of the layout is that of the store
-  pub tests_are : (l : Layout) → Serves v store l → tests_unflushed test table l ≡ test (h.memtable ∷ [])
+  pub tests_are : (l : Layout) → Serves v store l → tests_unflushed test table l ≡ test (unflushed_maps h)
   tests_are l serves =
       let t = seen_as table_in_memory l.tables (table - 1) h (ap (λ (ts : List TableInMemory). slice_get ts (table - 1)) (sym serves.tables) ∙ there) in
-      let frozen : t.0.frozen ≡ [] = ap (λ (k : TableInMemory). k.frozen) t.2 ∙ idle in
-      ap (λ (o : Option TableParts). option_map_or (λ t. test (unflushed t)) o false) (numbered_at table l.tables t.0 some t.1)
-      ∙ ap (λ (k : List Partitions). test (k ++ t.0.memtable ∷ [])) frozen ∙ ap (λ (k : TableInMemory). test (k.memtable ∷ [])) t.2
+      ap (λ (o : Option TableParts). option_map_or (λ t. test (unflushed t)) o false) (numbered_at table l.tables t.0 some t.1) ∙ ap (λ (k : TableInMemory). test (unflushed_maps k)) t.2
 
-  moves_where : (b : Bool) → test (h.memtable ∷ []) ≡ b → (l : Layout) → Serves v store l → flush_where test table l ≡ cond b (Flush table ∷ []) []
+  moves_where : (b : Bool) → test (unflushed_maps h) ≡ b → (l : Layout) → Serves v store l → flush_where test table l ≡ cond b (Flush table ∷ []) []
   moves_where b is l serves = ap (λ t. cond t (Flush table ∷ []) []) (tests_are l serves ∙ is)
 
   abbrev done : Result (Unit {0}) StepFault
   done = Ok tt
 
   -- it doesn't pass: no move
-  pub passes_not : IsSound v → CanChange v store → test (h.memtable ∷ []) ≡ false → MakesMoves (flush_where test table) v v store store done
+  pub passes_not : IsSound v → CanChange v store → test (unflushed_maps h) ≡ false → MakesMoves (flush_where test table) v v store store done
   passes_not sound ready is = record {
     any_moment = λ l serves. moves_none l v (flush_where test table l) sound (λ x now. (_, serves.shape x now));
     serves = λ l serves. subst (λ (ms : List Move). Serves v store (after_moves ms l)) (sym (moves_where false is l serves)) serves;
@@ -157,7 +153,7 @@ module _ (test : List Partitions → Bool) (table : ℕ) (v : View) (store : Sto
   }
 
   -- it does: a flush
-  pub passes : {T : Type 0} (b : View) (new : StoreInMemory) (result : Result T StepFault) → test (h.memtable ∷ []) ≡ true → MakesMoves (λ l. Flush table ∷ []) v b store new result → MakesMoves (flush_where test table) v b store new result
+  pub passes : {T : Type 0} (b : View) (new : StoreInMemory) (result : Result T StepFault) → test (unflushed_maps h) ≡ true → MakesMoves (λ l. Flush table ∷ []) v b store new result → MakesMoves (flush_where test table) v b store new result
   passes b new result is makes = record {
     any_moment = λ l serves. subst (λ (ms : List Move). Changes (λ x y. Between l ms y) v b) (sym (moves_where true is l serves)) (makes.any_moment l serves);
     serves = by_ok result (λ all l serves. subst (λ (ms : List Move). Serves b new (after_moves ms l)) (sym (moves_where true is l serves)) (all l serves)) makes.serves;
@@ -187,18 +183,3 @@ module _ (test : List Partitions → Bool) (table : ℕ) (v : View) (store : Sto
       by_spent : {V : Type 0} (r : Result V StepFault) → IfErr r (OnSpent (λ kind. (l : Layout) → Serves v store l → spent l (Flush table ∷ []) ≡ Some kind)) → IfErr r (OnSpent (λ kind. (l : Layout) → Serves v store l → spent l (flush_where test table l) ≡ Some kind))
       by_spent (Ok y) is_spent = tt
       by_spent (Err e) is_spent = by_fault e is_spent
-
--- ---- what passes holds something
-
-some_full : (m : Partitions) → are_full (m ∷ []) ≡ true → 1 ≤ length (map_.entries m)
-some_full m full = by (map_.entries m) refl
-  where
-    by : (es : List _) → map_.entries m ≡ es → 1 ≤ length es
-    by [] none = absurd (empty_full (ap (λ es. (nat_le 65536 (0 + sum_by (λ e. cells_in e.1) es) || nat_le (2 ^ 26) (0 + sum_by bytes_in es))) none) full)
-      where
-        empty_full : {b : Bool} → b ≡ false → b ≡ true → ⊥
-        empty_full one two = cc
-    by (e ∷ es) is = omega arith
-
-pub full_holds : (m : Partitions) → are_full (m ∷ []) ≡ true → 1 ≤ length (map_.entries m)
-full_holds = some_full

@@ -1,5 +1,6 @@
 -- The map of a table whose index is defined has it, behind the others.
-use Rattle.std.proofs.Common.{◌≡◌, ℕ, zero, suc, ◌+◌, ◌-◌, ◌<◌, ◌≤◌, List, [], ◌∷◌, ◌++◌, length, map, set, slice_get, Option, None, Some, refl, sym, ap, ◌∙◌, arith}
+use Rattle.std.proofs.Common.{◌≡◌, ℕ, ◌+◌, ◌-◌, ◌<◌, ◌≤◌, List, [], ◌∷◌, ◌++◌, length, map, set, slice_get, Option, None, Some, refl, sym, ap, ◌∙◌, arith}
+use Rattle.std.specs.Prelude.{Contains}
 use Rattle.std.proofs.lemmas.List.{length-map, map-append}
 use Rattle.std.proofs.lemmas.Option.{slice_get-map}
 use Rattle.std.specs.List.{AllByRecursion, zip}
@@ -17,23 +18,12 @@ use Rattle.sasi_model.specs.Abbreviations.{kind_of}
 use Rattle.sasi_model.specs.Indexes.{index_of}
 use Rattle.sasi_model.specs.State.{Index}
 use Rattle.sasi_store.specs.declared.table_maps.TableMaps.{TableMaps}
-use Rattle.sasi_store.specs.Held.{AreAdded, AreMapped, HasIndexes, HasRegularIndexes, OthersStay, Subject, held_of, subject_in, subject_of, subjects_of}
+use Rattle.sasi_store.specs.Held.{AreAdded, AreMapped, HasIndexes, HasRegularIndexes, IsAddedToAll, Subject, held_of, numbers_of, subject_in, subject_of, subjects_of}
 use Rattle.sasi_store.proofs.AddedToMaps.{added_first, added_more, indexed_held, indexed_mapped, map_of}
+use Rattle.sasi_store.proofs.HeldMaps.{set_at, set_other}
 use Rattle.sasi_store.proofs.TablesInMemory.{all_push, length_set, map_there}
 
 -- ---- lists
-
-set_other : {A : Type 0} (xs : List A) (at : ℕ) (y : A) (i : ℕ) → (i ≡ at → ⊥) → slice_get (set xs at y) i ≡ slice_get xs i
-set_other [] at y i differ = refl
-set_other (x ∷ xs) zero y zero differ = absurd (differ refl)
-set_other (x ∷ xs) zero y (suc i) differ = refl
-set_other (x ∷ xs) (suc at) y zero differ = refl
-set_other (x ∷ xs) (suc at) y (suc i) differ = set_other xs at y i (λ same. differ (ap (λ k. suc k) same))
-
-set_at : {A : Type 0} (xs : List A) (at : ℕ) (x y : A) → slice_get xs at ≡ Some x → slice_get (set xs at y) at ≡ Some y
-set_at [] at x y there = cc
-set_at (z ∷ xs) zero x y there = refl
-set_at (z ∷ xs) (suc at) x y there = set_at xs at x y there
 
 zip_push : {A B : Type 0} (xs : List A) (ys : List B) (x : A) (y : B) → length xs ≡ length ys → zip (xs ++ x ∷ []) (ys ++ y ∷ []) ≡ zip xs ys ++ (x, y) ∷ []
 zip_push [] [] x y same = refl
@@ -63,18 +53,18 @@ regular_defined def above number ts regular =
 
 module _ (book : Book) (last : ℕ) (tables : List ListedDefinition) (ts : List TableMaps) (mapped : AreMapped book last (map subjects_of tables) ts) (def : IndexDef) (some : 0 < def.table) (t : TableMaps) (there : slice_get ts (def.table - 1) ≡ Some t)
     (row : ListedDefinition) (listed : slice_get tables (def.table - 1) ≡ Some row) (counted : length row.numbers ≡ length row.definition.indexes) (kind : def.kind ≡ kind_of row.definition def.column)
-    (after : Book) (added : IsAdded def.number def.column def.kind def.rule (get book t.memtable) (get after t.memtable)) (others : OthersStay t.memtable book after) where
+    (after : Book) (all : IsAddedToAll def (numbers_of t) book after) where
   abbrev at : ℕ
   at = def.table - 1
 
   abbrev new : List ListedDefinition
   new = at_number 1 def.table (listed_with_index def) tables
 
-  one : AreAdded (def ∷ []) (get book t.memtable) (get after t.memtable)
-  one = added_one def (get book t.memtable) (get after t.memtable) added
+  one : (number : ℕ) → Contains (numbers_of t) number → AreAdded (def ∷ []) (get book number) (get after number)
+  one number has = added_one def (get book number) (get after number) (all.added number has)
 
   pub defined_held : held_of after ts ≡ held_of book ts
-  defined_held = indexed_held book last (map subjects_of tables) ts mapped at t there (def ∷ []) after one others
+  defined_held = indexed_held book last (map subjects_of tables) ts mapped at t there (def ∷ []) after one all.others
 
   new_is : new ≡ set tables at (listed_with_index def row)
   new_is =
@@ -86,7 +76,7 @@ module _ (book : Book) (last : ℕ) (tables : List ListedDefinition) (ts : List 
 
   pub defined_mapped : AreMapped after last (map subjects_of new) ts
   defined_mapped =
-      indexed_mapped book last (map subjects_of tables) ts mapped at t there (def ∷ []) after one others (subjects_of row) (map_there subjects_of tables at row listed) (map subjects_of new)
+      indexed_mapped book last (map subjects_of tables) ts mapped at t there (def ∷ []) after one all.others (subjects_of row) (map_there subjects_of tables at row listed) (map subjects_of new)
       (length-map new subjects_of ∙ ap length new_is ∙ length_set tables at (listed_with_index def row) ∙ sym (length-map tables subjects_of))
       (λ i differ. seen i ∙ ap (option_map subjects_of) (set_other tables at (listed_with_index def row) i differ) ∙ sym (slice_get-map subjects_of tables i))
       (seen at ∙ ap (option_map subjects_of) (set_at tables at row (listed_with_index def row) listed) ∙ ap (λ (l : List Subject). Some l) (with_index_subjects def row counted kind))

@@ -4,7 +4,7 @@ use Rattle.std.proofs.lemmas.List.{drop_all, drop_more}
 use Rattle.sasi_layout.specs.Moves.{lesser}
 use Rattle.sasi_layout.specs.Serving.{TableInMemory}
 use Rattle.sasi_memindex.specs.Book.{Book}
-use Rattle.sasi_recover.specs.OpenedFolder.{opened_table}
+use Rattle.sasi_store.specs.Held.{in_memory}
 use Rattle.sasi_schema.specs.Numbers.{RisesFrom}
 use Rattle.sasi_store.specs.Floors.{floor_in_memory, lowered}
 use Rattle.sasi_store.specs.Held.{held_by, held_of}
@@ -27,9 +27,9 @@ floor_lowered n table last first (t ∷ ts) =
 
 -- what is in memory of a table with its map
 abbrev pub seen_in : Book → TableMaps → TableInMemory
-seen_in book t = opened_table (held_by book t)
+seen_in book t = in_memory (held_by book t)
 
-seen_held : (book : Book) (ts : List TableMaps) → map opened_table (held_of book ts) ≡ map (seen_in book) ts
+seen_held : (book : Book) (ts : List TableMaps) → map in_memory (held_of book ts) ≡ map (seen_in book) ts
 seen_held book [] = refl
 seen_held book (t ∷ ts) = ap (λ (l : List TableInMemory). seen_in book t ∷ l) (seen_held book ts)
 
@@ -72,7 +72,7 @@ module _ (book : Book) (floor table last : ℕ) (tables : List TableMaps) (index
         floor_is = ap (λ (n : ℕ). floor_in_memory n table later left) (sym next) ∙ ap (λ (k : ℕ). floor_in_memory (suc (suc index)) table k left) (became ∙ number) ∙ lowered_is ∙ before;
       }
 
-pub lowering_done : (book : Book) (floor table last : ℕ) (tables : List TableMaps) (index : ℕ) → IsLowering book floor table last tables index → length tables ≤ index → floor ≡ floor_in_memory 1 table last (map opened_table (held_of book tables))
+pub lowering_done : (book : Book) (floor table last : ℕ) (tables : List TableMaps) (index : ℕ) → IsLowering book floor table last tables index → length tables ≤ index → floor ≡ floor_in_memory 1 table last (map in_memory (held_of book tables))
 lowering_done book floor table last tables index on past =
     let end : drop index tables ≡ [] = drop_all index tables (omega (arith, past)) in
     subst (λ (l : List TableMaps). floor_in_memory (suc index) table floor (map (seen_in book) l) ≡ floor_in_memory 1 table last (map (seen_in book) tables)) end on.floor_is

@@ -17,9 +17,14 @@ use Rattle.sasi_manifest.specs.ListedTables.{listed}
 use Rattle.sasi_layout.specs.Classes.{KnowsIndexes}
 use Rattle.sasi_layout.specs.Moves.{Flush}
 use Rattle.sasi_layout.specs.Serving.{AreTablesReady, CanChange, IsTableReady, TableInMemory}
-use Rattle.sasi_recover.specs.OpenedFolder.{opened_table}
+use Rattle.sasi_store.specs.Held.{in_memory, unflushed_maps}
+use Rattle.sasi_cells.specs.Maps.{merged}
+use Rattle.sasi_memtable.specs.MemtableView.{MemtableView}
+use Rattle.sasi_layout.specs.Serving.{AreStorable}
+use Rattle.sasi_model.specs.Abbreviations.{types_of}
+use Rattle.sasi_store.proofs.Unflushed.{unflushed_storable}
 use Rattle.sasi_recover.specs.declared.opened.Numbers.{Numbers}
-use Rattle.sasi_recover.specs.declared.opened.TableMap.{TableMap}
+use Rattle.sasi_store.specs.Held.{HeldTable}
 use Rattle.sasi_store.specs.declared.fault.StepFault.{StepFault}
 use Rattle.sasi_store.specs.declared.fault.StepFault.TheVariants as fault
 use Rattle.sasi_store.specs.declared.parts.Parts.{Parts}
@@ -63,11 +68,12 @@ module _ (v : View) (p : Parts) (ready : CanChange v (memory_of p)) (number : �
       next_is = is.next_is;
     }
 
-    -- **Index files of them can be written of the table's memtable.**
-    pub drawn_can_index : (kinds : List Class) → AllByRecursion (KnowsIndexes kinds) p.schema.definitions → (t : TableMap) → slice_get (held_in p) (number - 1) ≡ Some t → CanIndex kinds t.memtable.partitions defs parts
-    drawn_can_index kinds known t got =
+    -- **Index files of them can be written of the table's maps.**
+    pub drawn_can_index : (kinds : List Class) → AllByRecursion (KnowsIndexes kinds) p.schema.definitions → (t : HeldTable) → slice_get (held_in p) (number - 1) ≡ Some t → (m : MemtableView) → m.partitions ≡ merged (unflushed_maps (in_memory t)) → CanIndex kinds m.partitions defs parts
+    drawn_can_index kinds known t got m whole =
         let defined : slice_get p.schema.definitions (number - 1) ≡ Some (definition row.table) =
         ap (λ (ds : List Definition). slice_get ds (number - 1)) ready.definitions ∙ map_there (λ (x : ListedDefinition). x.definition) p.manifest.listing.tables (number - 1) (listed row) there in
-        let storable = (ready_at p.manifest.listing.partitioner p.manifest.listing.floor p.manifest.listing.last (number - 1) p.schema.definitions (memory_of p).tables (definition row.table) (opened_table t) ready.tables defined (memory_at p number t got)).memtable in
-        let can = can_index row p.numbers.part p.manifest.listing ready.consistent number there is.room kinds p.manifest.listing.partitioner t.memtable (known_defs kinds row (known_at kinds p.schema.definitions (number - 1) (definition row.table) known defined)) storable in
-        subst (λ (ds : List IndexDef). CanIndex kinds t.memtable.partitions ds parts) (sym is.defs_are) (subst (CanIndex kinds t.memtable.partitions _) (sym is.parts_are) can)
+        let is_ready = ready_at p.manifest.listing.partitioner p.manifest.listing.floor p.manifest.listing.last (number - 1) p.schema.definitions (memory_of p).tables (definition row.table) (in_memory t) ready.tables defined (memory_at p number t got) in
+        let storable = subst (AreStorable p.manifest.listing.partitioner (types_of (definition row.table))) (sym whole) (unflushed_storable p.manifest.listing.partitioner p.manifest.listing.floor p.manifest.listing.last (definition row.table) (in_memory t) is_ready) in
+        let can = can_index row p.numbers.part p.manifest.listing ready.consistent number there is.room kinds p.manifest.listing.partitioner m (known_defs kinds row (known_at kinds p.schema.definitions (number - 1) (definition row.table) known defined)) storable in
+        subst (λ (ds : List IndexDef). CanIndex kinds m.partitions ds parts) (sym is.defs_are) (subst (CanIndex kinds m.partitions _) (sym is.parts_are) can)

@@ -10,7 +10,6 @@ use Rattle.sasi_host.proofs.ContentLaws.{told_after, told_before, told_files}
 use Rattle.sasi_host.specs.Disk.{Changes, Relation}
 use Rattle.sasi_host.specs.Names.{Bytes, Folder, log_name, manifest_name}
 use Rattle.sasi_host.specs.View.{IsAbsent, IsThere, Reaches, View}
-use Rattle.sasi_body.specs.Body.{HasBody}
 use Rattle.sasi_cells.specs.Maps.{merged}
 use Rattle.sasi_cells.specs.declared.mutation.Mutation.{Mutation}
 use Rattle.sasi_gated.specs.Handles.{Handle}
@@ -22,13 +21,13 @@ use Rattle.sasi_commitlog.specs.LogPosition.{IsAtLogEnd}
 use Rattle.sasi_layout.proofs.ListingLaws.{rising_bound}
 use Rattle.sasi_layout.proofs.NewFiles.{ready_flush}
 use Rattle.sasi_layout.proofs.Numbered.{all_changed, seen_at, unseen_at}
-use Rattle.sasi_layout.proofs.Storable.{entries_storable, none_storable}
+use Rattle.sasi_layout.proofs.Storable.{none_storable}
 use Rattle.sasi_layout.proofs.MovesInOrder.{moved_in_order}
 use Rattle.sasi_layout.specs.Flushed.{flush_drops, flush_makes}
 use Rattle.sasi_layout.specs.Kept.{HasKept, Kept}
 use Rattle.sasi_layout.specs.Layout.{Layout, TableParts, Used, listing_of, unflushed}
 use Rattle.sasi_layout.specs.Moves.{Flush, after_flush, flush_parts, flush_table, floor_without, lesser, next_floor}
-use Rattle.sasi_layout.specs.Serving.{AreTablesReady, CanChange, IsLive, IsStorable, IsTableReady, Serves, StoreInMemory, TableInMemory, kept_by, table_in_memory}
+use Rattle.sasi_layout.specs.Serving.{AreStorable, AreTablesReady, CanChange, IsLive, IsTableReady, Serves, StoreInMemory, TableInMemory, kept_by, table_in_memory}
 use Rattle.sasi_layout.specs.NumbersInOrder.{HasFilesInOrder, HasIndexesNumbered, Rising}
 use Rattle.sasi_manifest.proofs.Applying.{replace_applies}
 use Rattle.sasi_manifest.proofs.Consistency.{record_consistent}
@@ -44,16 +43,14 @@ use Rattle.sasi_manifest.specs.Format.{IsNext}
 use Rattle.sasi_manifest.specs.ListedDefinition.{ListedDefinition}
 use Rattle.sasi_manifest.specs.Listings.{at_number, listed_definitions, replaced}
 use Rattle.sasi_manifest.specs.OpenManifest.{ManifestState, ManifestStands}
-use Rattle.sasi_memtable.specs.MemtableView.{MemtableView}
+use Rattle.sasi_memtable.specs.MemtableView.{AreDecorated, MemtableView}
 use Rattle.sasi_model.specs.Abbreviations.{Partitions, types_of}
 use Rattle.sasi_model.specs.State.{Definition, max_timestamp}
-use Rattle.sasi_model.specs.Cells.{Partition}
 use Rattle.sasi_types.specs.declared.index_def.IndexDef.{IndexDef}
-use Rattle.sasi_types.specs.declared.column.ColumnType.{ColumnType}
-use Rattle.sasi_types.specs.declared.decorated_key.DecoratedKey.{DecoratedKey}
 use Rattle.sasi_types.specs.declared.partitioner.Partitioner.{Partitioner}
 use Rattle.sasi_store.specs.Floors.{IsUnflushed, floor_in_memory, flushed_in_memory, memory_after_flush}
-use Rattle.sasi_store.proofs.OneMap.{one_map}
+use Rattle.sasi_store.proofs.Unflushed.{storable_bodies, storable_decorated, unflushed_storable}
+use Rattle.sasi_store.specs.Held.{unflushed_maps}
 use Rattle.sasi_store.specs.Flushing.{AreTableIndexes, CanFlush, ChangesInFlush, HasFlushedFiles, HaveBodies, IsFlushOf, IsFlushed, edit_of, file_of}
 use Rattle.sasi_store.specs.declared.flush.FlushNumbers.{FlushNumbers}
 use Rattle.sasi_store.proofs.FlushedNames.{flush_turned}
@@ -139,10 +136,6 @@ never e = cc
 
 -- ---- what it needs
 
-bodies_of : (p : Partitioner) (types : List ColumnType) (es : List (DecoratedKey × Partition)) → AllByRecursion (IsStorable p types) es → AllByRecursion (λ e. HasBody e.0.key e.1) es
-bodies_of p types [] all = tt
-bodies_of p types (e ∷ es) all = (all.0.body.has, bodies_of p types es all.1)
-
 within_all : (last table n : ℕ) (ts : List ListedDefinition) → AllByRecursion (λ t. t.since ≤ last) ts → are_within (suc last) table n ts ≡ true
 within_all last table n [] all = refl
 within_all last table n (t ∷ ts) all =
@@ -155,7 +148,7 @@ within_all last table n (t ∷ ts) all =
 
 module _ (a : View) (store : StoreInMemory) (ready : CanChange a store) (n : FlushNumbers) (m : MemtableView) (held : IsUnflushed n.table store) (file : n.file ≡ suc store.used.«data») (last : n.last ≡ suc store.manifest.listing.last)
     (floor : n.floor ≡ floor_in_memory 1 n.table n.last store.tables) (fits : (n.table < 2 ^ 32) × (n.file < 2 ^ 32) × (n.last < 2 ^ 32))
-    (memtable : m.partitions ≡ held.there_is.memtable) (under : m.partitioner ≡ store.manifest.listing.partitioner)
+    (memtable : m.partitions ≡ merged (unflushed_maps held.there_is)) (under : m.partitioner ≡ store.manifest.listing.partitioner)
     (parts : List PartNumber) (fit : FitParts (numbers_at store.manifest.listing.tables n.table) parts) where
   abbrev pub listing : Listing
   listing = store.manifest.listing
@@ -178,6 +171,9 @@ module _ (a : View) (store : StoreInMemory) (ready : CanChange a store) (n : Flu
   -- the table in memory with its definition
   defined : (d : Definition) × IsTableReady listing.partitioner listing.floor listing.last d held.there_is
   defined = ready_in_memory listing.partitioner listing.floor listing.last (n.table - 1) store.definitions store.tables held.there_is ready.tables held.there
+
+  storable : AreStorable listing.partitioner (types_of defined.0) (merged (unflushed_maps held.there_is))
+  storable = unflushed_storable listing.partitioner listing.floor listing.last defined.0 held.there_is defined.1
 
   new_number : list_any (λ t. has_file t.files n.file) listing.tables ≡ false
   new_number = number_above store.used.«data» listing.last n.file listing.tables ready.numbered.files (omega (arith, file))
@@ -214,8 +210,9 @@ module _ (a : View) (store : StoreInMemory) (ready : CanChange a store) (n : Flu
     room = ready.manifest_room;
     usable = ready.manifest_usable;
     partitioner = under;
+    decorated = subst (λ (q : Partitioner). AreDecorated q m.partitions) (sym under) (subst (AreDecorated listing.partitioner) (sym memtable) (storable_decorated listing.partitioner (types_of defined.0) (merged (unflushed_maps held.there_is)) storable));
     some = subst (λ (k : Partitions). 1 ≤ length (map_.entries k)) (sym memtable) held.held;
-    bodies = subst HaveBodies (sym memtable) (bodies_of listing.partitioner (types_of defined.0) (map_.entries held.there_is.memtable) (entries_storable listing.partitioner (types_of defined.0) held.there_is.memtable defined.1.memtable));
+    bodies = subst HaveBodies (sym memtable) (storable_bodies listing.partitioner (types_of defined.0) (merged (unflushed_maps held.there_is)) storable);
     applies = applies;
   }
 
@@ -276,9 +273,7 @@ module _ (a : View) (store : StoreInMemory) (ready : CanChange a store) (n : Flu
     unflushed_is : At 1 n.table (λ t. merged (unflushed t) ≡ m.partitions) l.tables
     unflushed_is =
         let t = seen_as table_in_memory l.tables (n.table - 1) held.there_is (ap (λ (ts : List TableInMemory). slice_get ts (n.table - 1)) (sym serves.tables) ∙ held.there) in
-        let frozen : t.0.frozen ≡ [] = ap (λ (h : TableInMemory). h.frozen) t.2 ∙ held.idle in
-        at_numbered (λ (t : TableParts). merged (unflushed t) ≡ m.partitions) n.table l.tables t.0 held.some t.1
-        (ap (λ (k : List Partitions). merged (k ++ t.0.memtable ∷ [])) frozen ∙ ap (λ (h : TableInMemory). merged (h.memtable ∷ [])) t.2 ∙ one_map listing.partitioner (types_of defined.0) held.there_is.memtable defined.1.memtable ∙ sym memtable)
+        at_numbered (λ (t : TableParts). merged (unflushed t) ≡ m.partitions) n.table l.tables t.0 held.some t.1 (ap (λ (h : TableInMemory). merged (unflushed_maps h)) t.2 ∙ sym memtable)
 
     -- **It is the flush of the layout's table.**
     pub flush_of : (defs : List IndexDef) → parts ≡ flush_parts n.table l → At 1 n.table (AreTableIndexes defs) l.tables → IsFlushOf a store.manifest m n defs parts l logs

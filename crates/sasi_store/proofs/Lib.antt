@@ -21,6 +21,11 @@ pub mod DefinedParts
 pub mod OpenedMaps
 pub mod Timestamps
 pub mod OneMap
+pub mod TableTests
+pub mod Unflushed
+pub mod MergedMaps
+pub mod EachMap
+pub mod Freezing
 pub mod MoveCauses
 pub mod Putting
 pub mod Creating

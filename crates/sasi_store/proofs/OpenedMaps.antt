@@ -13,7 +13,7 @@ use Rattle.sasi_manifest.specs.declared.listed.ListedTable.{ListedTable}
 use Rattle.sasi_memindex.specs.Book.{Book, bare}
 use Rattle.sasi_recover.specs.ReplayState.{AreMapsFrom}
 use Rattle.sasi_recover.specs.declared.opened.TableMap.{TableMap}
-use Rattle.sasi_store.specs.Held.{AreMapped, CanAddAll, CanIndexTables, HasRegularIndexes, IsAddedTo, KnowsDef, Subject, held_of, subject_of, subjects_of, wanted_rows}
+use Rattle.sasi_store.specs.Held.{AreMapped, CanAddAll, CanIndexTables, HasRegularIndexes, HeldTable, IsAddedTo, KnowsDef, Subject, held_of, opened_held, subject_of, subjects_of, wanted_rows}
 use Rattle.sasi_store.specs.declared.table_maps.TableMaps.{TableMaps}
 use Rattle.sasi_store.proofs.HeldChanges.{added_held, added_mapped}
 use Rattle.sasi_store.proofs.IndexedTables.{known_defs, regular_table, table_subjects, table_values}
@@ -21,7 +21,7 @@ use Rattle.sasi_store.proofs.IndexedTables.{known_defs, regular_table, table_sub
 -- ---- before the first
 
 pub mapped_none : (last : ℕ) → AreMapped (map_.empty {R = nat_cmp}) last [] []
-mapped_none last = record { counted = refl; apart = λ i j x y one two same. cc; used = λ i x one. cc; indexed = λ i x s one two. cc }
+mapped_none last = record { counted = refl; apart = λ i j x y n one two first second. cc; rising = λ i x one. cc; used = λ i x n one has. cc; indexed = λ i x s n one two has. cc }
 
 -- what an opened folder gives can be indexed
 pub can_open : (kinds : List Class) (p : Partitioner) (floor last n : ℕ) (rows : List ListedTable) (xs : List TableMap) → AreMapsFrom p floor last n (map listed rows) xs
@@ -45,7 +45,7 @@ rows_regular (row ∷ rows) = (regular_table row, rows_regular rows)
 -- the first tables have maps with their indexes, and the others are left
 pub record IsAdding (kinds : List Class) (rows : List ListedTable) (all left : List TableMap) (book : Book) (last : ℕ) (ts : List TableMaps) : Type 0 where
   pub mapped : AreMapped book last (wanted_rows (take (length ts) rows)) ts
-  pub held : held_of book ts ++ left ≡ all
+  pub held : held_of book ts ++ map opened_held left ≡ map opened_held all
   pub can : CanIndexTables kinds (drop (length ts) rows) left
 
 -- the row of the next one
@@ -81,13 +81,13 @@ module _ (kinds : List Class) (rows : List ListedTable) (all left : List TableMa
 
     pub adding_more : (after : Book) (new : List TableMaps) → IsAddedTo last x row.table.indexes ts new book after → (number : ℕ) → number ≡ last + 1 → IsAdding kinds rows all rest after number new
     adding_more after new added number next =
-        let count : length new ≡ length ts + 1 = ap length added.tables_are ∙ length-append ts (record { number = x.number; memtable = suc last; first = x.first } ∷ []) in
+        let count : length new ≡ length ts + 1 = ap length added.tables_are ∙ length-append ts (record { number = x.number; frozen = []; memtable = suc last; first = x.first } ∷ []) in
         record {
           mapped = subst (λ (w : List (List Subject)). AreMapped after number w new) (sym (ap (λ (n : ℕ). wanted_rows (take n rows)) count ∙ take_row rows (length ts) row row_inside row_is))
               (added_mapped book last (wanted_rows (take (length ts) rows)) ts on.mapped x row.table.indexes after new added number next);
           held =
-              ap (λ (l : List TableMap). l ++ rest) (added_held book last (wanted_rows (take (length ts) rows)) ts on.mapped x row.table.indexes after new added)
-              ∙ append_assoc (held_of book ts) (x ∷ []) rest ∙ ap (λ (l : List TableMap). held_of book ts ++ l) (sym is) ∙ on.held;
+              ap (λ (l : List HeldTable). l ++ map opened_held rest) (added_held book last (wanted_rows (take (length ts) rows)) ts on.mapped x row.table.indexes after new added)
+              ∙ append_assoc (held_of book ts) (opened_held x ∷ []) (map opened_held rest) ∙ ap (λ (l : List TableMap). held_of book ts ++ map opened_held l) (sym is) ∙ on.held;
           can = subst (λ (n : ℕ). CanIndexTables kinds (drop n rows) rest) (sym count) here.2;
         }
 
@@ -99,8 +99,8 @@ none_left kinds (row ∷ rows) zero can = absurd can
 none_left kinds (row ∷ rows) (suc n) can = ap (λ (l : List ListedTable). row ∷ l) (none_left kinds rows n can)
 
 module _ (kinds : List Class) (rows : List ListedTable) (all left : List TableMap) (book : Book) (last : ℕ) (ts : List TableMaps) (on : IsAdding kinds rows all left book last ts) (none : left ≡ []) where
-  pub adding_held : held_of book ts ≡ all
-  adding_held = sym (append-nil (held_of book ts)) ∙ ap (λ (l : List TableMap). held_of book ts ++ l) (sym none) ∙ on.held
+  pub adding_held : held_of book ts ≡ map opened_held all
+  adding_held = sym (append-nil (held_of book ts)) ∙ ap (λ (l : List TableMap). held_of book ts ++ map opened_held l) (sym none) ∙ on.held
 
   pub adding_mapped : AreMapped book last (wanted_rows rows) ts
   adding_mapped =

@@ -7,31 +7,27 @@ use Rattle.std.specs.FinMap.{get}
 use Rattle.std.specs.List.{AllByRecursion, zip}
 use Rattle.std.specs.Map.{lookup}
 use Rattle.sasi_types.specs.declared.column.ColumnType.{ColumnType}
-use Rattle.sasi_types.specs.declared.decorated_key.DecoratedKey.{DecoratedKey}
 use Rattle.sasi_types.specs.declared.index_def.IndexDef.{IndexDef}
 use Rattle.sasi_types.specs.declared.partitioner.Partitioner.{Partitioner}
 use Rattle.sasi_cells.specs.Rows.{IsStored}
 use Rattle.sasi_host.specs.View.{View}
-use Rattle.sasi_model.specs.Abbreviations.{types_of}
-use Rattle.sasi_model.specs.Cells.{Partition}
+use Rattle.sasi_model.specs.Abbreviations.{Partitions, types_of}
 use Rattle.sasi_model.specs.Conditions.{Condition}
 use Rattle.sasi_model.specs.Indexes.{index_of}
 use Rattle.sasi_model.specs.State.{Definition}
-use Rattle.sasi_model.specs.Stored.{IsBodyOf}
 use Rattle.sasi_machine.proofs.StatementPreparing.{body_stored}
 use Rattle.sasi_machine.proofs.Texts.{body_texts}
 use Rattle.sasi_machine.specs.TableRows.{AreStored}
-use Rattle.sasi_machine.specs.Where.{HasTexts}
 use Rattle.sasi_machine.specs.declared.prepared.Selection.{Selection}
 use Rattle.sasi_manifest.specs.ListedDefinition.{ListedDefinition}
 use Rattle.sasi_manifest.specs.ListedFiles.{is_among}
 use Rattle.sasi_manifest.specs.ListedTables.{listed}
 use Rattle.sasi_memindex.specs.Book.{Book}
 use Rattle.sasi_memtable.specs.MemtableView.{MemtableView}
-use Rattle.sasi_recover.specs.OpenedFolder.{opened_table}
-use Rattle.sasi_recover.specs.declared.opened.TableMap.{TableMap}
+use Rattle.sasi_store.specs.Held.{in_memory}
+use Rattle.sasi_store.specs.Held.{HeldTable}
 use Rattle.sasi_schema.specs.Defined.{definition}
-use Rattle.sasi_layout.specs.Serving.{CanChange}
+use Rattle.sasi_layout.specs.Serving.{AreStorable, CanChange, IsTableReady}
 use Rattle.sasi_sources.specs.KeyCandidates.{HasKeyType}
 use Rattle.sasi_views.specs.declared.part.Part as view
 use Rattle.sasi_engine.specs.declared.relation.IndexedRelation.{IndexedRelation}
@@ -50,8 +46,8 @@ use Rattle.sasi_store.specs.ViewParts.{current_parts}
 use Rattle.sasi_store.specs.declared.parts.Parts.{Parts}
 use Rattle.sasi_store.proofs.FlushingParts.{memory_at, table_at}
 use Rattle.sasi_store.proofs.Putting.{has_table}
-use Rattle.sasi_store.proofs.TablesInMemory.{map_there, ready_at}
-use Rattle.sasi_store.proofs.ViewWorlds.{IsIndexedBy, among_numbered, view_finds, view_memtable}
+use Rattle.sasi_store.proofs.TablesInMemory.{all_push, map_there, ready_at}
+use Rattle.sasi_store.proofs.ViewWorlds.{IsIndexedBy, among_numbered, view_finds, view_memtables}
 
 -- ---- the indexes of relations
 
@@ -109,29 +105,33 @@ module _ (v : View) (p : Parts) (of : IsOfParts p) (ready : CanChange v (memory_
   defined : slice_get (memory_of p).definitions at ≡ Some d
   defined = ap (λ (ds : List Definition). slice_get ds at) ready.definitions ∙ map_there (λ (t : ListedDefinition). t.definition) p.manifest.listing.tables at (listed is.row) is.there
 
-  held : (t : TableMap) × (slice_get (held_in p) at ≡ Some t)
+  held : (t : HeldTable) × (slice_get (held_in p) at ≡ Some t)
   held = table_at p rows.table (has_table v p rows.table d ready is.some defined)
 
   -- **What the reader gives can be printed.**
   pub plan_prints : HasKeyType plan.types (views_numbered p.maps (map_numbers (current_parts p rows.table))) plan.picked.key
   plan_prints = record {
     first = ap (λ (ts : List ColumnType). slice_get ts 0) is.types ∙ ap Some (sym is.key);
-    stored = subst (AllByRecursion (λ (m : MemtableView). AreStored plan.picked.key m.partitions)) (sym (view_memtable p of rows.table held.0 held.1)) (record { keys = keys; texts = texts }, tt);
+    stored = subst (AllByRecursion (λ (m : MemtableView). AreStored plan.picked.key m.partitions)) (sym (view_memtables p of rows.table held.0 held.1))
+        (all_push (λ (m : MemtableView). AreStored plan.picked.key m.partitions) held.0.frozen held.0.memtable (each held.0.frozen is_ready.frozen) (of_map held.0.memtable.partitions is_ready.memtable));
   }
     where
-      body : (key : DecoratedKey) (part : Partition) → get held.0.memtable.partitions key ≡ Some part → IsBodyOf (types_of d) key.key part
-      body key part there =
+      is_ready : IsTableReady p.manifest.listing.partitioner p.manifest.listing.floor p.manifest.listing.last d (in_memory held.0)
+      is_ready =
           let l = p.manifest.listing in
-          let has = ready_at l.partitioner l.floor l.last at (memory_of p).definitions (memory_of p).tables d (opened_table held.0) ready.tables defined (memory_at p rows.table held.0 held.1) in
-          (has.memtable key part there).body
+          ready_at l.partitioner l.floor l.last at (memory_of p).definitions (memory_of p).tables d (in_memory held.0) ready.tables defined (memory_at p rows.table held.0 held.1)
 
-      keys : (key : DecoratedKey) → is_some (get held.0.memtable.partitions key) ≡ true → IsStored plan.picked.key key.key
-      keys key some =
-          let part = some_there (get held.0.memtable.partitions key) some in
-          subst (λ (k : ColumnType). IsStored k key.key) (sym is.key) (body_stored d key.key part.0 (body key part.0 part.1))
+      of_map : (m : Partitions) → AreStorable p.manifest.listing.partitioner (types_of d) m → AreStored plan.picked.key m
+      of_map m storable = record {
+        keys = λ key some.
+            let part = some_there (get m key) some in
+            subst (λ (k : ColumnType). IsStored k key.key) (sym is.key) (body_stored d key.key part.0 (storable key part.0 part.1).body);
+        texts = λ key part there. body_texts (types_of d) key.key part (storable key part there).body;
+      }
 
-      texts : (key : DecoratedKey) (part : Partition) → get held.0.memtable.partitions key ≡ Some part → HasTexts part
-      texts key part there = body_texts (types_of d) key.key part (body key part there)
+      each : (ms : List MemtableView) → AllByRecursion (AreStorable p.manifest.listing.partitioner (types_of d)) (map (λ (m : MemtableView). m.partitions) ms) → AllByRecursion (λ (m : MemtableView). AreStored plan.picked.key m.partitions) ms
+      each [] all = tt
+      each (m ∷ ms) all = (of_map m.partitions all.0, each ms all.1)
 
   -- **Its relations can be found in the current parts.**
   pub plan_ready : PendingReady plan.source (current_parts p rows.table) p.maps

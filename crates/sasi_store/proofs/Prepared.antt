@@ -40,7 +40,7 @@ use Rattle.sasi_model.specs.State.{Definition, State, definition_of, max_timesta
 use Rattle.sasi_model.specs.Step.{primary_key}
 use Rattle.sasi_model.specs.Stored.{IsBodyOf}
 use Rattle.sasi_model.specs.WellFormed.{IsWellFormed}
-use Rattle.sasi_recover.specs.OpenedFolder.{opened_table}
+use Rattle.sasi_store.specs.Held.{in_memory}
 use Rattle.sasi_schema.proofs.Indexed.{number_within}
 use Rattle.sasi_schema.proofs.Keys.{types_are}
 use Rattle.sasi_schema.proofs.NewIndexes.{stands_at_number}
@@ -137,8 +137,8 @@ module _ (v : View) (p : Parts) (ready : CanChange v (memory_of p)) where
   pub has_table_for : (number : ℕ) → HasTable blank number → HasTableFor number (held_in p)
   has_table_for number has =
       let size : length (map empty_table p.schema.definitions) ≡ length p.schema.definitions = length-map p.schema.definitions empty_table in
-      let count = as_many listing.partitioner listing.floor listing.last p.schema.definitions (map opened_table (held_in p)) ready.tables in
-      let maps : length (map opened_table (held_in p)) ≡ length (held_in p) = length-map (held_in p) opened_table in
+      let count = as_many listing.partitioner listing.floor listing.last p.schema.definitions (map in_memory (held_in p)) ready.tables in
+      let maps : length (map in_memory (held_in p)) ≡ length (held_in p) = length-map (held_in p) in_memory in
       record { some = has.some; inside = omega (arith, has.inside, size, count, maps) }
 
   pub selectable : (rows : Selection) → HasRows blank rows → IsSelectable (memory_of p) rows

@@ -7,6 +7,7 @@ use Rattle.sasi_types.specs.declared.class.Class.{Class}
 use Rattle.sasi_host.specs.View.{View, counted}
 use Rattle.sasi_datawrite.specs.Causes.{PushCauses}
 use Rattle.sasi_datawrite.specs.declared.fault.PairFault.{PairFault}
+use Rattle.sasi_datawrite.specs.declared.fault.PairFault.TheVariants as pair
 use Rattle.sasi_layout.specs.Classes.{HasNeeded}
 use Rattle.sasi_types.specs.declared.index_def.IndexDef.{IndexDef}
 use Rattle.sasi_pairs.specs.Gathered.{LacksClass}
@@ -34,4 +35,18 @@ push_stops Lacks a b c f disk out reads none causes = record {
   undamaged = causes.undamaged;
   missing = λ class is. none class (causes.missing class is);
   lacking = λ class is. causes.lacking class is ∙ disk;
+}
+
+-- memory that runs out behind pushes that succeeded
+pub memory_stops : (a b : View) → b.disk_faults ≡ a.disk_faults → b.out_faults ≡ a.out_faults → b.reads ≡ a.reads → PushCauses {T = Unit {0}} (λ _. ⊥) a b (Err pair.OutOfMemory)
+memory_stops a b disk out reads = record {
+  disk = omega (arith, disk);
+  out = out;
+  reads = reads;
+  ok = tt;
+  failed = λ is. cc;
+  memory = λ is. disk;
+  undamaged = λ damage is. cc;
+  missing = λ class is. cc;
+  lacking = λ class is. disk;
 }

@@ -43,8 +43,12 @@ use Rattle.sasi_model.specs.Changes.{empty_table}
 use Rattle.sasi_model.specs.State.{Definition, State, Table, max_timestamp}
 use Rattle.sasi_model.specs.Stored.{IsBodyOf}
 use Rattle.sasi_model.specs.State.{decorated}
-use Rattle.sasi_recover.specs.OpenedFolder.{opened_table as open_table, used_numbers}
-use Rattle.sasi_recover.specs.declared.opened.TableMap.{TableMap}
+use Rattle.sasi_recover.specs.OpenedFolder.{used_numbers}
+use Rattle.sasi_store.specs.Held.{in_memory}
+use Rattle.sasi_store.specs.Held.{HeldTable, partitions_of}
+use Rattle.sasi_memtable.specs.MemtableView.{MemtableView}
+use Rattle.std.proofs.lemmas.List.Elements.{Contains-push}
+use Rattle.std.specs.List.{AllByRecursion}
 use Rattle.sasi_schema.specs.Numbers.{RisesFrom}
 use Rattle.sasi_types.specs.declared.partitioner.Partitioner.{Partitioner}
 use Rattle.sasi_cells.specs.Maps.{put}
@@ -218,8 +222,8 @@ module _ (a b : View) (sound : IsSound a) (store : StoreInMemory) (m : Mutation)
 pub has_table : (v : View) (p : Parts) (number : ℕ) (d : Definition) → CanChange v (memory_of p) → 0 < number → slice_get p.schema.definitions (number - 1) ≡ Some d → HasTableFor number (held_in p)
 has_table v p number d ready some there =
     let listing = p.manifest.listing in
-    let count = as_many listing.partitioner listing.floor listing.last p.schema.definitions (map open_table (held_in p)) ready.tables in
-    let size : length (map open_table (held_in p)) ≡ length (held_in p) = length-map (held_in p) open_table in
+    let count = as_many listing.partitioner listing.floor listing.last p.schema.definitions (map in_memory (held_in p)) ready.tables in
+    let size : length (map in_memory (held_in p)) ≡ length (held_in p) = length-map (held_in p) in_memory in
     record { some = some; inside = omega (arith, some, there_inside p.schema.definitions (number - 1) d there, count, size) }
 
 -- ---- the maps
@@ -238,7 +242,7 @@ module _ (v : View) (p : Parts) (m : Mutation) (ready : CanChange v (memory_of p
   listed = seen_as (λ (t : ListedDefinition). t.definition) p.manifest.listing.tables at writable.definition (ap (λ (ds : List Definition). slice_get ds at) (sym ready.definitions) ∙ writable.there)
 
   has : (t : TableMaps) → slice_get p.tables.items at ≡ Some t → HasIndexes (subjects_of listed.0) (get p.maps t.memtable)
-  has t found = of.mapped.indexed at t (subjects_of listed.0) found (map_there subjects_of p.manifest.listing.tables at listed.0 listed.1)
+  has t found = of.mapped.indexed at t (subjects_of listed.0) t.memtable found (map_there subjects_of p.manifest.listing.tables at listed.0 listed.1) (Contains-push t.frozen t.memtable)
 
   pub put_can : (t : TableMaps) → slice_get p.tables.items at ≡ Some t → Changeable (get p.maps t.memtable) m.change
   put_can t found =
@@ -261,24 +265,24 @@ module _ (v : View) (p : Parts) (m : Mutation) (ready : CanChange v (memory_of p
 
 -- ---- the memtables
 
-module _ (p : Parts) (m : Mutation) (of : IsOfParts p) (there : HasTableFor m.table (held_in p)) (tables : List TableMap) (is : IsPutAt p.numbers.log m (held_in p) tables) where
-  found : (t : TableMap) × (slice_get (held_in p) (m.table - 1) ≡ Some t)
+module _ (p : Parts) (m : Mutation) (of : IsOfParts p) (there : HasTableFor m.table (held_in p)) (tables : List HeldTable) (is : IsPutAt p.numbers.log m (held_in p) tables) where
+  found : (t : HeldTable) × (slice_get (held_in p) (m.table - 1) ≡ Some t)
   found = inside_there (held_in p) (m.table - 1) (omega (arith, there.some, there.inside))
 
   under : found.0.memtable.partitioner ≡ p.manifest.listing.partitioner
-  under = all_at (λ (t : TableMap). t.memtable.partitioner ≡ p.manifest.listing.partitioner) (m.table - 1) (held_in p) found.0 of.tables.under found.1
+  under = all_at (λ (t : HeldTable). t.memtable.partitioner ≡ p.manifest.listing.partitioner) (m.table - 1) (held_in p) found.0 of.tables.under found.1
 
-  pub put_tables : map open_table tables ≡ at_number 1 m.table (put_in_memory p.manifest.listing.partitioner p.numbers.log m) (map open_table (held_in p))
+  pub put_tables : map in_memory tables ≡ at_number 1 m.table (put_in_memory p.manifest.listing.partitioner p.numbers.log m) (map in_memory (held_in p))
   put_tables =
       let t = found.0 in
-      let new : TableMap = put_map p.numbers.log m.key m.change t in
-      let seen : open_table new ≡ put_in_memory p.manifest.listing.partitioner p.numbers.log m (open_table t) =
-      ap (λ (q : Partitioner). record { first = or_else t.first (Some p.numbers.log); frozen = []; memtable = put t.memtable.partitions (decorated q m.key) m.change }) under in
-      ap (map open_table) (is t found.1) ∙ set_numbered open_table (put_in_memory p.manifest.listing.partitioner p.numbers.log m) m.table (held_in p) t new there.some found.1 seen
+      let new : HeldTable = put_map p.numbers.log m.key m.change t in
+      let seen : in_memory new ≡ put_in_memory p.manifest.listing.partitioner p.numbers.log m (in_memory t) =
+      ap (λ (q : Partitioner). record { first = or_else t.first (Some p.numbers.log); frozen = partitions_of t.frozen; memtable = put t.memtable.partitions (decorated q m.key) m.change }) under in
+      ap (map in_memory) (is t found.1) ∙ set_numbered in_memory (put_in_memory p.manifest.listing.partitioner p.numbers.log m) m.table (held_in p) t new there.some found.1 seen
 
   -- **The store is as it is after the put.**
   pub put_memory : (log : Handle) (n : ℕ) → n ≡ max p.max_timestamp (max_timestamp_of m.change)
-      → record { definitions = p.schema.definitions; manifest = p.manifest; log = log; tables = map open_table tables; used = used_numbers p.numbers; max_timestamp = n } ≡ record (memory_after_put m (memory_of p)) { log = log }
+      → record { definitions = p.schema.definitions; manifest = p.manifest; log = log; tables = map in_memory tables; used = used_numbers p.numbers; max_timestamp = n } ≡ record (memory_after_put m (memory_of p)) { log = log }
   put_memory log n time =
       ap (λ (ts : List TableInMemory). record { definitions = p.schema.definitions; manifest = p.manifest; log = log; tables = ts; used = used_numbers p.numbers; max_timestamp = n }) put_tables
       ∙ ap (λ (k : ℕ). record (memory_after_put m (memory_of p)) { log = log; max_timestamp = k }) time
@@ -286,10 +290,12 @@ module _ (p : Parts) (m : Mutation) (of : IsOfParts p) (there : HasTableFor m.ta
   pub put_tables_are : AreTables p.manifest.listing.partitioner tables
   put_tables_are =
       let t = found.0 in
-      let new : TableMap = put_map p.numbers.log m.key m.change t in
+      let new : HeldTable = put_map p.numbers.log m.key m.change t in
       subst (AreTables p.manifest.listing.partitioner) (sym (is t found.1)) (record {
-        numbers = subst (RisesFrom 1) (sym (unseen_set (λ (t : TableMap). t.number) (m.table - 1) (held_in p) t new found.1 refl)) of.tables.numbers;
-        under = all_set (λ (t : TableMap). t.memtable.partitioner ≡ p.manifest.listing.partitioner) (m.table - 1) (held_in p) new of.tables.under under;
+        numbers = subst (RisesFrom 1) (sym (unseen_set (λ (t : HeldTable). t.number) (m.table - 1) (held_in p) t new found.1 refl)) of.tables.numbers;
+        under = all_set (λ (t : HeldTable). t.memtable.partitioner ≡ p.manifest.listing.partitioner) (m.table - 1) (held_in p) new of.tables.under under;
+        frozen = all_set (λ (t : HeldTable). AllByRecursion (λ (m : MemtableView). m.partitioner ≡ p.manifest.listing.partitioner) t.frozen) (m.table - 1) (held_in p) new of.tables.frozen
+            (all_at (λ (t : HeldTable). AllByRecursion (λ (m : MemtableView). m.partitioner ≡ p.manifest.listing.partitioner) t.frozen) (m.table - 1) (held_in p) t of.tables.frozen found.1);
       })
 
   pub put_there : HasTableFor m.table tables

@@ -56,7 +56,7 @@ use Rattle.sasi_store.specs.Selects.{AreShortFor, AreShortIn, HasShortFiles, IsP
 use Rattle.sasi_store.specs.StoreView.{IsOfParts, memory_of}
 use Rattle.sasi_store.specs.Tables.{content_of}
 use Rattle.sasi_store.specs.Worlds.{selection_checks}
-use Rattle.sasi_store.specs.ViewParts.{current_parts, listed_parts, memtable_number}
+use Rattle.sasi_store.specs.ViewParts.{current_parts, listed_parts, table_numbers}
 use Rattle.sasi_store.specs.declared.parts.Parts.{Parts}
 use Rattle.sasi_store.proofs.TablesInMemory.{map_there, seen_as}
 use Rattle.sasi_store.proofs.ViewFiles.{view_files}
@@ -85,9 +85,10 @@ module _ (picked : Picked) (f : Filter) where
 -- ---- files
 
 -- the data files of a view are those that are listed
-pub files_back : (fs : List ListedFile) (memtable : ℕ) → listed_files (listed_parts fs memtable) ≡ fs
-files_back [] memtable = refl
-files_back (f ∷ fs) memtable = ap (λ (l : List ListedFile). f ∷ l) (files_back fs memtable)
+pub files_back : (fs : List ListedFile) (ns : List ℕ) → listed_files (listed_parts fs ns) ≡ fs
+files_back [] [] = refl
+files_back [] (n ∷ ns) = files_back [] ns
+files_back (f ∷ fs) ns = ap (λ (l : List ListedFile). f ∷ l) (files_back fs ns)
 
 -- what the parts on disk have, the data files have
 contents_back : (t : TableParts) (fs : List File) (ms : List Partitions) → map (λ (part : Part). contents_of part.holds) (costs.files_of (map (part_of_file t) fs ++ map part_of_map ms)) ≡ map (λ (f : File). content_of f.holds) fs
@@ -217,7 +218,7 @@ module _ (v : View) (sound : IsSound v) (p : Parts) (of : IsOfParts p) (ready : 
 
     scan_within : key_asked plan.conditions ≡ None → table_reads (Some folder) (listed_files (current_parts p rows.table)) ≤ unindexed_reads (Some folder) q t (key_asked plan.conditions)
     scan_within asks =
-        same_most _ _ (ap (table_reads (Some folder)) (files_back (files_of p.manifest.listing.tables rows.table) (memtable_number p.tables.items rows.table) ∙ files_are) ∙ ap (unindexed_reads (Some folder) q t) (sym asks))
+        same_most _ _ (ap (table_reads (Some folder)) (files_back (files_of p.manifest.listing.tables rows.table) (table_numbers p.tables.items rows.table) ∙ files_are) ∙ ap (unindexed_reads (Some folder) q t) (sym asks))
 
     abbrev most_of : List Asked → ℕ
     most_of asks = asked_reads (Some folder) q t plan.conditions plan.limit asks
@@ -251,7 +252,7 @@ module _ (v : View) (sound : IsSound v) (p : Parts) (of : IsOfParts p) (ready : 
     short_by : (asks : List Asked) → AreShortFor (Some folder) t asks → IsBoundedBy world (map (relation_of defs) asks)
     short_by [] short = tt
     short_by (a ∷ asks) short = λ name bytes is_file there.
-        short name bytes (ap (λ (fs : List ListedFile). have_name fs name) (sym files_are) ∙ sym (view_files (files_of p.manifest.listing.tables rows.table) (memtable_number p.tables.items rows.table) name) ∙ is_file) there
+        short name bytes (ap (λ (fs : List ListedFile). have_name fs name) (sym files_are) ∙ sym (view_files (files_of p.manifest.listing.tables rows.table) (table_numbers p.tables.items rows.table) name) ∙ is_file) there
 
     bounded_by : AreShortFor (Some folder) t asked → (source : PlanSource) → IsSourceOf q defs plan.conditions source → IsBounded world source
     bounded_by short Nothing from = tt

@@ -14,7 +14,10 @@ use Rattle.sasi_model.specs.State.{Definition}
 use Rattle.sasi_manifest.specs.declared.listing.Listing.{Listing}
 use Rattle.sasi_manifest.specs.ListedDefinition.{ListedDefinition}
 use Rattle.sasi_recover.specs.ReplayState.{AreMaps, AreMapsFrom}
+use Rattle.sasi_store.specs.Held.{HeldTable, in_memory, opened_held}
+use Rattle.sasi_recover.specs.OpenedFolder.{opened_table}
 use Rattle.sasi_recover.specs.declared.opened.TableMap.{TableMap}
+use Rattle.sasi_memtable.specs.MemtableView.{MemtableView}
 use Rattle.sasi_schema.specs.Numbers.{RisesFrom}
 use Rattle.sasi_store.specs.StoreView.{AreTables}
 
@@ -182,23 +185,33 @@ at_numbered P number xs x some there is =
 
 -- ---- the memtables of an opened folder
 
-opened_numbers : (p : Partitioner) (floor last n : ℕ) (ts : List ListedDefinition) (xs : List TableMap) → AreMapsFrom p floor last n ts xs → RisesFrom n (map (λ (t : TableMap). t.number) xs)
+opened_numbers : (p : Partitioner) (floor last n : ℕ) (ts : List ListedDefinition) (xs : List TableMap) → AreMapsFrom p floor last n ts xs → RisesFrom n (map (λ (t : HeldTable). t.number) (map opened_held xs))
 opened_numbers p floor last n [] [] maps = tt
 opened_numbers p floor last n [] (x ∷ xs) maps = absurd maps
 opened_numbers p floor last n (t ∷ ts) [] maps = absurd maps
 opened_numbers p floor last n (t ∷ ts) (x ∷ xs) maps = (maps.0.number_is, opened_numbers p floor last (suc n) ts xs maps.1)
 
-opened_under : (p : Partitioner) (floor last n : ℕ) (ts : List ListedDefinition) (xs : List TableMap) → AreMapsFrom p floor last n ts xs → AllByRecursion (λ (t : TableMap). t.memtable.partitioner ≡ p) xs
+opened_under : (p : Partitioner) (floor last n : ℕ) (ts : List ListedDefinition) (xs : List TableMap) → AreMapsFrom p floor last n ts xs → AllByRecursion (λ (t : HeldTable). t.memtable.partitioner ≡ p) (map opened_held xs)
 opened_under p floor last n [] [] maps = tt
 opened_under p floor last n [] (x ∷ xs) maps = absurd maps
 opened_under p floor last n (t ∷ ts) [] maps = absurd maps
 opened_under p floor last n (t ∷ ts) (x ∷ xs) maps = (maps.0.under, opened_under p floor last (suc n) ts xs maps.1)
 
-pub opened_tables : (listing : Listing) (xs : List TableMap) → AreMaps listing xs → AreTables listing.partitioner xs
+opened_frozen : (p : Partitioner) (xs : List TableMap) → AllByRecursion (λ (t : HeldTable). AllByRecursion (λ (m : MemtableView). m.partitioner ≡ p) t.frozen) (map opened_held xs)
+opened_frozen p [] = tt
+opened_frozen p (x ∷ xs) = (tt, opened_frozen p xs)
+
+pub opened_tables : (listing : Listing) (xs : List TableMap) → AreMaps listing xs → AreTables listing.partitioner (map opened_held xs)
 opened_tables listing xs maps = record {
   numbers = opened_numbers listing.partitioner listing.floor listing.last 1 listing.tables xs maps;
   under = opened_under listing.partitioner listing.floor listing.last 1 listing.tables xs maps;
+  frozen = opened_frozen listing.partitioner xs;
 }
+
+-- what is in memory of them
+pub opened_memory : (xs : List TableMap) → map in_memory (map opened_held xs) ≡ map opened_table xs
+opened_memory [] = refl
+opened_memory (x ∷ xs) = ap (λ (l : List TableInMemory). opened_table x ∷ l) (opened_memory xs)
 
 -- ---- the files of a table
 

@@ -39,7 +39,7 @@ use Rattle.sasi_plan.specs.Plans.{PlanView}
 use Rattle.sasi_plan.specs.Reading.{PendingShows}
 use Rattle.sasi_store.specs.Selects.{IsPlanFor}
 use Rattle.sasi_store.specs.StoreView.{memory_of}
-use Rattle.sasi_store.specs.ViewParts.{current_parts, memtable_number}
+use Rattle.sasi_store.specs.ViewParts.{current_parts, table_numbers}
 use Rattle.sasi_store.specs.declared.parts.Parts.{Parts}
 use Rattle.sasi_store.proofs.SelectWorlds.{files_back}
 use Rattle.sasi_store.proofs.TablesInMemory.{there_inside}
@@ -187,7 +187,7 @@ module _ (v : View) (sound : IsSound v) (p : Parts) (ready : CanChange v (memory
 
   -- the data file of a name in the view
   named : (name : FileName) → is_file_of (current_parts p rows.table) name ≡ true → IsNamedBy files name
-  named name is_file = named_by files name (sym (view_files files (memtable_number p.tables.items rows.table) name) ∙ is_file)
+  named name is_file = named_by files name (sym (view_files files (table_numbers p.tables.items rows.table) name) ∙ is_file)
 
   lookup_shows : (damage : Damage) (name : FileName) → name.kind ≡ Data → is_file_of (current_parts p rows.table) name ≡ true → FileShows plan.types name v.files damage → FolderShows folder damage
   lookup_shows damage name kind is_file shows =
@@ -204,4 +204,4 @@ module _ (v : View) (sound : IsSound v) (p : Parts) (ready : CanChange v (memory
   pub view_shows : (damage : Damage) → PendingShows plan.types (current_parts p rows.table) v.files damage → FolderShows folder damage
   view_shows damage (inl (of_hits shown)) = hits_show damage shown
   view_shows damage (inl (of_lookup name kind is_file shows)) = lookup_shows damage name kind is_file shows
-  view_shows damage (inr shows) = data_shows damage (subst (λ (fs : List ListedFile). ShowsListed v.files fs plan.types damage) (files_back files (memtable_number p.tables.items rows.table)) shows)
+  view_shows damage (inr shows) = data_shows damage (subst (λ (fs : List ListedFile). ShowsListed v.files fs plan.types damage) (files_back files (table_numbers p.tables.items rows.table)) shows)

@@ -1,7 +1,8 @@
 -- The parts of a view: their files are there, and none is listed twice.
-use Rattle.std.proofs.Common.{◌≡◌, ◌≢◌, ℕ, zero, suc, ◌+◌, ◌-◌, ◌≤◌, ◌||◌, Bool, true, false, if◌then◌else◌, nat_eq, List, [], ◌∷◌, ◌++◌, map, slice_get, refl, sym, ap, ◌∙◌, arith}
+use Rattle.std.proofs.Common.{◌≡◌, ◌≢◌, ℕ, zero, suc, ◌+◌, ◌-◌, ◌<◌, ◌≤◌, ◌||◌, Bool, true, false, if◌then◌else◌, nat_eq, List, [], ◌∷◌, ◌++◌, map, slice_get, Option, None, Some, refl, sym, ap, ap₂, subst, ◌∙◌, arith, append_assoc}
 use Rattle.std.proofs.lemmas.Bool.Decides.{nat_tests}
 use Rattle.std.proofs.lemmas.Bool.{or_left, or_right}
+use Rattle.std.proofs.lemmas.List.{map-append}
 use Rattle.std.specs.List.{AllByRecursion, list_any}
 use Rattle.std.specs.Option.{option_map_or}
 use Rattle.sasi_host.specs.declared.name.FileName.{FileName}
@@ -22,10 +23,18 @@ use Rattle.sasi_layout.specs.Serving.{CanChange, kept_by}
 use Rattle.sasi_views.specs.declared.component.Component.{Component}
 use Rattle.sasi_views.specs.declared.component.Component.TheVariants.{File, Map}
 use Rattle.sasi_views.specs.Components.{lists, same}
+use Rattle.sasi_views.specs.declared.part.Part as view
+use Rattle.sasi_views.specs.declared.part.Part.TheVariants as view_part
 use Rattle.sasi_views.specs.Parts.{ListsOnce, components_of, part_components}
 use Rattle.sasi_engine.specs.Plans.{is_file_of}
 use Rattle.sasi_store.specs.StoreView.{memory_of}
-use Rattle.sasi_store.specs.ViewParts.{current_parts, file_part, listed_parts, memtable_number}
+use Rattle.sasi_store.specs.ViewParts.{current_parts, file_part, listed_parts, table_numbers}
+use Rattle.sasi_store.specs.Held.{Rise, numbers_of}
+use Rattle.sasi_store.specs.StoreView.{IsOfParts}
+use Rattle.sasi_store.specs.declared.table_maps.TableMaps.{TableMaps}
+use Rattle.std.specs.declared.cmp.Ordering.{Ordering}
+use Rattle.std.specs.declared.cmp.Ordering.TheVariants.{Less, Equal, Greater}
+use Rattle.std.specs.Ordering.{is_eq, nat_cmp}
 use Rattle.sasi_store.specs.declared.parts.Parts.{Parts}
 
 -- ---- the files of a table
@@ -50,9 +59,24 @@ listed_kept k name is =
     (or_right (name_eq name (seal_name k.manifest)) (segment || has_name k.listing.tables name) (or_right segment (has_name k.listing.tables name) is))
 
 -- the files of a view are those that are listed
-pub view_files : (fs : List ListedFile) (memtable : ℕ) (name : FileName) → is_file_of (listed_parts fs memtable) name ≡ have_name fs name
-view_files [] memtable name = refl
-view_files (f ∷ fs) memtable name = ap (λ b. is_name_of f name || b) (view_files fs memtable name)
+maps_no_files : (ns : List ℕ) (name : FileName) → is_file_of (listed_parts [] ns) name ≡ false
+maps_no_files [] name = refl
+maps_no_files (n ∷ ns) name = maps_no_files ns name
+
+pub view_files : (fs : List ListedFile) (ns : List ℕ) (name : FileName) → is_file_of (listed_parts fs ns) name ≡ have_name fs name
+view_files [] ns name = maps_no_files ns name
+view_files (f ∷ fs) ns name = ap (λ b. is_name_of f name || b) (view_files fs ns name)
+
+-- **Data files, then the frozen maps of a table, and then its memtable, are its current parts.**
+pub parts_listed : (p : Parts) (number : ℕ) (x : TableMaps) → slice_get p.tables.items (number - 1) ≡ Some x → (files : List view.Part) → files ≡ map file_part (files_of p.manifest.listing.tables number)
+    → (frozen : List ℕ) → frozen ≡ x.frozen → (older : List view.Part) → older ≡ files ++ map (λ n. view_part.Map n) frozen → (all : List view.Part) → all ≡ older ++ view_part.Map x.memtable ∷ [] → all ≡ current_parts p number
+parts_listed p number x there files files_are frozen frozen_are older older_are all all_are =
+    let listed : List view.Part = map file_part (files_of p.manifest.listing.tables number) in
+    all_are
+    ∙ ap (λ (l : List view.Part). l ++ view_part.Map x.memtable ∷ []) (older_are ∙ ap₂ (λ (l : List view.Part) (ns : List ℕ). l ++ map (λ n. view_part.Map n) ns) files_are frozen_are)
+    ∙ append_assoc listed (map (λ n. view_part.Map n) x.frozen) (view_part.Map x.memtable ∷ [])
+    ∙ ap (λ (l : List view.Part). listed ++ l) (sym (map-append (λ n. view_part.Map n) x.frozen (x.memtable ∷ [])))
+    ∙ ap (λ (o : Option TableMaps). listed_parts (files_of p.manifest.listing.tables number) (option_map_or numbers_of o [])) (sym there)
 
 -- ---- how often a component is listed
 
@@ -69,15 +93,37 @@ no_map : (n number : ℕ) (ps : List PartNumber) → lists (Map n) (map (λ p. F
 no_map n number [] = refl
 no_map n number (p ∷ ps) = omega (arith, no_map n number ps)
 
-map_once : (n memtable : ℕ) (fs : List ListedFile) → lists (Map n) (components_of (listed_parts fs memtable)) ≤ 1
-map_once n memtable [] = by (same (Map memtable) (Map n))
+same_numbers : (a b : ℕ) → same (Map a) (Map b) ≡ true → a ≡ b
+same_numbers a b is = by (nat_cmp a b) refl is
   where
-    by : (b : Bool) → one_if b + 0 ≤ 1
-    by true = omega arith
-    by false = omega arith
-map_once n memtable (f ∷ fs) =
+    by : (o : Ordering) → nat_cmp a b ≡ o → is_eq o ≡ true → a ≡ b
+    by Less o h = cc
+    by Equal o h = grind (arith, nat_tests)
+    by Greater o h = cc
+
+-- maps with higher numbers
+maps_none : (n : ℕ) (ns : List ℕ) → AllByRecursion (λ k. n < k) ns → lists (Map n) (components_of (listed_parts [] ns)) ≡ 0
+maps_none n [] above = refl
+maps_none n (k ∷ ns) above = by (same (Map k) (Map n)) refl (maps_none n ns above.1)
+  where
+    by : (b : Bool) → same (Map k) (Map n) ≡ b → lists (Map n) (components_of (listed_parts [] ns)) ≡ 0 → one_if b + lists (Map n) (components_of (listed_parts [] ns)) ≡ 0
+    by true is rest = absurd (omega (arith, above.0, same_numbers k n is))
+    by false is rest = omega (arith, rest)
+
+-- of rising numbers each is there once at most
+maps_once : (n : ℕ) (ns : List ℕ) → Rise ns → lists (Map n) (components_of (listed_parts [] ns)) ≤ 1
+maps_once n [] rise = omega arith
+maps_once n (k ∷ ns) rise = by (same (Map k) (Map n)) refl (maps_once n ns rise.1)
+  where
+    by : (b : Bool) → same (Map k) (Map n) ≡ b → lists (Map n) (components_of (listed_parts [] ns)) ≤ 1 → one_if b + lists (Map n) (components_of (listed_parts [] ns)) ≤ 1
+    by true is rest = omega (arith, maps_none n ns (subst (λ i. AllByRecursion (λ (j : ℕ). i < j) ns) (same_numbers k n is) rise.0))
+    by false is rest = omega (arith, rest)
+
+map_once : (n : ℕ) (ns : List ℕ) (fs : List ListedFile) → Rise ns → lists (Map n) (components_of (listed_parts fs ns)) ≤ 1
+map_once n ns [] rise = maps_once n ns rise
+map_once n ns (f ∷ fs) rise =
     let indexes = map (λ p. File (index_name f.number p)) f.parts in
-    omega (arith, no_map n f.number f.parts, lists_both (Map n) indexes (components_of (listed_parts fs memtable)), map_once n memtable fs)
+    omega (arith, no_map n f.number f.parts, lists_both (Map n) indexes (components_of (listed_parts fs ns)), map_once n ns fs rise)
 
 -- ---- a file
 
@@ -139,25 +185,29 @@ module _ (name : FileName) where
         parts_apart f.number f.parts (each_apart f.number (λ p is. apart (ap (λ (n : FileName). n.number) is)) f.parts),
       )
 
-  module _ (memtable : ℕ) where
-    files_apart : (above : ℕ) (fs : List ListedFile) → FilesRise above fs → name.number ≤ above → count (components_of (listed_parts fs memtable)) ≡ 0
-    files_apart above [] rise below = omega arith
+  no_file : (ns : List ℕ) → count (components_of (listed_parts [] ns)) ≡ 0
+  no_file [] = refl
+  no_file (n ∷ ns) = ap (λ (k : ℕ). 0 + k) (no_file ns)
+
+  module _ (ns : List ℕ) where
+    files_apart : (above : ℕ) (fs : List ListedFile) → FilesRise above fs → name.number ≤ above → count (components_of (listed_parts fs ns)) ≡ 0
+    files_apart above [] rise below = no_file ns
     files_apart above (f ∷ fs) rise below =
         omega (
           arith,
-          lists_both (File name) (part_components (file_part f)) (components_of (listed_parts fs memtable)),
+          lists_both (File name) (part_components (file_part f)) (components_of (listed_parts fs ns)),
           file_apart f (λ own. omega (arith, own, rise.0, below)),
           files_apart f.number fs rise.2 (omega (arith, rise.0, below)),
         )
 
-    files_once : (above : ℕ) (fs : List ListedFile) → FilesRise above fs → AllByRecursion (λ (f : ListedFile). IndexesRise f.parts) fs → count (components_of (listed_parts fs memtable)) ≤ 1
-    files_once above [] rise parts = omega arith
+    files_once : (above : ℕ) (fs : List ListedFile) → FilesRise above fs → AllByRecursion (λ (f : ListedFile). IndexesRise f.parts) fs → count (components_of (listed_parts fs ns)) ≤ 1
+    files_once above [] rise parts = omega (arith, no_file ns)
     files_once above (f ∷ fs) rise parts = by (nat_eq f.number name.number) refl (files_once f.number fs rise.2 parts.1)
       where
-        both : count (components_of (listed_parts (f ∷ fs) memtable)) ≡ count (part_components (file_part f)) + count (components_of (listed_parts fs memtable))
-        both = lists_both (File name) (part_components (file_part f)) (components_of (listed_parts fs memtable))
+        both : count (components_of (listed_parts (f ∷ fs) ns)) ≡ count (part_components (file_part f)) + count (components_of (listed_parts fs ns))
+        both = lists_both (File name) (part_components (file_part f)) (components_of (listed_parts fs ns))
 
-        by : (b : Bool) → nat_eq f.number name.number ≡ b → count (components_of (listed_parts fs memtable)) ≤ 1 → count (components_of (listed_parts (f ∷ fs) memtable)) ≤ 1
+        by : (b : Bool) → nat_eq f.number name.number ≡ b → count (components_of (listed_parts fs ns)) ≤ 1 → count (components_of (listed_parts (f ∷ fs) ns)) ≤ 1
         by true is rest =
             let own : f.number ≡ name.number = grind (arith, nat_tests, is) in
             omega (arith, both, file_once f parts.0, files_apart f.number fs rise.2 (omega (arith, own)))
@@ -181,20 +231,24 @@ module _ (v : View) (p : Parts) (ready : CanChange v (memory_of p)) (number : �
   abbrev files : List ListedFile
   files = files_of tables number
 
-  abbrev memtable : ℕ
-  memtable = memtable_number p.tables.items number
+  abbrev maps : List ℕ
+  maps = table_numbers p.tables.items number
 
   -- the manifest lists the files of a view of current parts,
   pub view_listed : (name : FileName) → is_file_of (current_parts p number) name ≡ true → has_name tables name ≡ true
-  view_listed name is = has_name_by name tables ∙ name_listed tables (number - 1) name (sym (view_files files memtable name) ∙ is)
+  view_listed name is = has_name_by name tables ∙ name_listed tables (number - 1) name (sym (view_files files maps name) ∙ is)
 
   -- **they are there,**
   pub view_there : (name : FileName) → is_file_of (current_parts p number) name ≡ true → IsThere v name
   view_there name is = kept_there v (kept_by (memory_of p)) name ready.kept (listed_kept (kept_by (memory_of p)) name (view_listed name is))
 
   -- **and none of them is listed twice.**
-  pub view_once : ListsOnce (current_parts p number)
-  view_once (Map n) = map_once n memtable files
-  view_once (File name) =
-      files_once name memtable 0 files (files_have (FilesRise 0) tt tables (number - 1) ready.consistent.files)
+  pub view_once : IsOfParts p → ListsOnce (current_parts p number)
+  view_once of (Map n) = map_once n maps files (by (slice_get p.tables.items (number - 1)) refl)
+    where
+      by : (o : Option TableMaps) → slice_get p.tables.items (number - 1) ≡ o → Rise (option_map_or numbers_of o [])
+      by None is = tt
+      by (Some x) is = of.mapped.rising (number - 1) x is
+  view_once of (File name) =
+      files_once name maps 0 files (files_have (FilesRise 0) tt tables (number - 1) ready.consistent.files)
       (files_have (AllByRecursion (λ (f : ListedFile). IndexesRise f.parts)) tt tables (number - 1) (parts_rise tables ready.consistent.parts))

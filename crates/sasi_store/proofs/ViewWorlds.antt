@@ -12,9 +12,8 @@ use Rattle.sasi_host.specs.View.{IsSound, View}
 use Rattle.sasi_cells.specs.Maps.{merged}
 use Rattle.sasi_memtable.specs.MemtableView.{AreDecorated, MemtableView, empty_memtable}
 use Rattle.sasi_model.specs.Abbreviations.{Partitions, types_of}
-use Rattle.sasi_model.specs.Cells.{Partition}
 use Rattle.sasi_model.specs.Conditions.{Condition}
-use Rattle.sasi_model.specs.State.{Definition, Index, decorated}
+use Rattle.sasi_model.specs.State.{Definition, Index}
 use Rattle.sasi_memindex.specs.Book.{Book, subjects}
 use Rattle.sasi_memindex.specs.declared.map_part.MapPart.{MapPart}
 use Rattle.sasi_memindex.specs.MemIndexView.{MemIndexView, Numbered, subject}
@@ -28,10 +27,9 @@ use Rattle.sasi_manifest.specs.ListedFiles.{is_among}
 use Rattle.sasi_scan.specs.Finding.{file_maps}
 use Rattle.sasi_scan.proofs.KeyLookups.{parts_are, parts_decorated}
 use Rattle.sasi_layout.specs.Layout.{File, Layout, TableParts, listed_of, table_of, unflushed}
-use Rattle.sasi_layout.specs.Serving.{CanChange, IsTableReady, Serves, TableInMemory, table_in_memory}
+use Rattle.sasi_layout.specs.Serving.{CanChange, Serves, TableInMemory, table_in_memory}
 use Rattle.sasi_layout.specs.Shape.{HasFile}
-use Rattle.sasi_recover.specs.OpenedFolder.{opened_table}
-use Rattle.sasi_recover.specs.declared.opened.TableMap.{TableMap}
+use Rattle.sasi_store.specs.Held.{HeldTable, in_memory as held_memory, map_in, maps_with, numbers_of, unflushed_maps}
 use Rattle.sasi_views.specs.declared.part.Part as view
 use Rattle.sasi_views.specs.declared.part.Part.TheVariants as view_part
 use Rattle.sasi_candidates.specs.Costs.{files_of}
@@ -50,11 +48,16 @@ use Rattle.sasi_engine.specs.Findable.{CanFind}
 use Rattle.sasi_scan.specs.Numbered.{views_numbered}
 use Rattle.sasi_store.specs.Held.{HasIndexes, IsIndexed, Subject, held_by, subject_in, subjects_of}
 use Rattle.sasi_store.specs.StoreView.{IsOfParts, held_in, memory_of, wanted_of}
-use Rattle.sasi_store.specs.ViewParts.{current_parts, file_part, listed_parts, memtable_number}
+use Rattle.sasi_store.specs.ViewParts.{current_parts, file_part, listed_parts, table_numbers}
 use Rattle.sasi_store.specs.declared.parts.Parts.{Parts}
 use Rattle.sasi_store.specs.declared.table_maps.TableMaps.{TableMaps}
-use Rattle.sasi_store.proofs.HeldMaps.{mapped_there, one_there}
-use Rattle.sasi_store.proofs.TablesInMemory.{all_at, inside_there, map_there, ready_in_memory, seen_as, shaped_at, there_inside}
+use Rattle.sasi_store.proofs.HeldMaps.{first_in, in_all, later_in, mapped_there, one_there, unflushed_numbers}
+use Rattle.sasi_store.proofs.Unflushed.{storable_decorated}
+use Rattle.sasi_layout.specs.Serving.{AreStorable}
+use Rattle.sasi_types.specs.declared.column.ColumnType.{ColumnType}
+use Rattle.std.specs.Prelude.{Contains}
+use Rattle.std.proofs.lemmas.List.{map-append}
+use Rattle.sasi_store.proofs.TablesInMemory.{all_at, all_push, inside_there, map_there, ready_in_memory, seen_as, shaped_at, there_inside}
 
 -- ---- the parts of a table
 
@@ -77,9 +80,11 @@ module _ (t : TableParts) where
   pub files_first : parts_of t ≡ files_of (parts_of t) ++ in_memory (parts_of t)
   files_first = ap₂ (λ (xs ys : List Part). xs ++ ys) (sym (on_disk t.files (unflushed t))) (sym (maps_alone t.files (unflushed t)))
 
-one_map : (fs : List ListedFile) (memtable : ℕ) → map_numbers (listed_parts fs memtable) ≡ memtable ∷ []
-one_map [] memtable = refl
-one_map (f ∷ fs) memtable = one_map fs memtable
+-- its maps
+view_numbers : (fs : List ListedFile) (ns : List ℕ) → map_numbers (listed_parts fs ns) ≡ ns
+view_numbers [] [] = refl
+view_numbers [] (n ∷ ns) = ap (λ (l : List ℕ). n ∷ l) (view_numbers [] ns)
+view_numbers (f ∷ fs) ns = view_numbers fs ns
 
 -- ---- tokens
 
@@ -88,18 +93,11 @@ file_contents : (folder : Folder) (p : Partitioner) (d : Definition) (numbers : 
 file_contents folder p d numbers [] all = ([], refl)
 file_contents folder p d numbers (f ∷ fs) all = (let rest = file_contents folder p d numbers fs all.1 in (all.0.content ∷ rest.0, ap₂ (λ (m : Partitions) ms. m ∷ ms) all.0.holds rest.1))
 
--- where the map's keys have their tokens, those of all parts have them
-merge_decorated : (p : Partitioner) (contents : List Content) (t : TableParts) (m : MemtableView) → map (λ (f : File). f.holds) t.files ≡ file_maps p contents → unflushed t ≡ m.partitions ∷ [] → AreDecorated p m.partitions → AreDecorated p (merged (maps_of (parts_of t)))
-merge_decorated p contents t m files maps own =
-    subst (λ (ms : List Partitions). AreDecorated p (merged ms)) (sym (maps_of_parts t ∙ ap₂ (λ (xs ys : List Partitions). xs ++ ys) files maps ∙ sym (parts_are p contents (m ∷ [])))) (parts_decorated p contents (m ∷ []) (own, tt))
-
--- what can be stored has its token
-stored_token : (p : Partitioner) (floor last : ℕ) (d : Definition) (t : TableInMemory) → IsTableReady p floor last d t → AreDecorated p t.memtable
-stored_token p floor last d t ready k some = by (get t.memtable k) refl some
-  where
-    by : (o : Option Partition) → get t.memtable k ≡ o → is_some o ≡ true → k ≡ decorated p k.key
-    by None there is = cc
-    by (Some part) there is = (ready.memtable k part there).key_is
+-- where the maps' keys have their tokens, those of all parts have them
+merge_decorated : (p : Partitioner) (contents : List Content) (t : TableParts) (ms : List MemtableView) → map (λ (f : File). f.holds) t.files ≡ file_maps p contents → unflushed t ≡ map (λ (m : MemtableView). m.partitions) ms
+    → AllByRecursion (λ (m : MemtableView). AreDecorated p m.partitions) ms → AreDecorated p (merged (maps_of (parts_of t)))
+merge_decorated p contents t ms files maps own =
+    subst (λ (xs : List Partitions). AreDecorated p (merged xs)) (sym (maps_of_parts t ∙ ap₂ (λ (xs ys : List Partitions). xs ++ ys) files maps ∙ sym (parts_are p contents ms))) (parts_decorated p contents ms own)
 
 -- ---- a map with its indexes
 
@@ -160,9 +158,10 @@ map_found : (t : ListedDefinition) (o : Option MapPart) → HasIndexes (subjects
 map_found t None has relations all = absurd has
 map_found t (Some part) has relations all = indexes_found t part has relations all
 
-parts_found : (book : Book) (relations : List IndexedRelation) (fs : List ListedFile) (memtable : ℕ) → found.HasIndexes relations (get book memtable) → AllByRecursion (CanFind book relations) (listed_parts fs memtable)
-parts_found book relations [] memtable has = (has, tt)
-parts_found book relations (f ∷ fs) memtable has = (tt, parts_found book relations fs memtable has)
+parts_found : (book : Book) (relations : List IndexedRelation) (fs : List ListedFile) (ns : List ℕ) → AllByRecursion (λ n. found.HasIndexes relations (get book n)) ns → AllByRecursion (CanFind book relations) (listed_parts fs ns)
+parts_found book relations [] [] has = tt
+parts_found book relations [] (n ∷ ns) has = (has.0, parts_found book relations [] ns has.1)
+parts_found book relations (f ∷ fs) ns has = (tt, parts_found book relations fs ns has)
 
 -- **The relations can be found in the current parts of a table**, where each has one of the table's indexes.
 pub view_finds : (p : Parts) → IsOfParts p → (number : ℕ) (t : ListedDefinition) → slice_get p.manifest.listing.tables (number - 1) ≡ Some t → (relations : List IndexedRelation) → AllByRecursion (IsIndexedBy t) relations
@@ -170,23 +169,31 @@ pub view_finds : (p : Parts) → IsOfParts p → (number : ℕ) (t : ListedDefin
 view_finds p of number t there relations all =
     let wanted : slice_get (wanted_of p) (number - 1) ≡ Some (subjects_of t) = map_there subjects_of p.manifest.listing.tables (number - 1) t there in
     let own = inside_there p.tables.items (number - 1) (omega (arith, of.mapped.counted, there_inside (wanted_of p) (number - 1) (subjects_of t) wanted)) in
-    subst (λ (n : ℕ). AllByRecursion (CanFind p.maps relations) (listed_parts (edits.files_of p.manifest.listing.tables number) n))
-    (sym (ap (λ (o : Option TableMaps). option_map_or (λ (x : TableMaps). x.memtable) o 0) own.1))
-    (parts_found p.maps relations (edits.files_of p.manifest.listing.tables number) own.0.memtable
-    (map_found t (get p.maps own.0.memtable) (of.mapped.indexed (number - 1) own.0 (subjects_of t) own.1 wanted) relations all))
+    subst (λ (ns : List ℕ). AllByRecursion (CanFind p.maps relations) (listed_parts (edits.files_of p.manifest.listing.tables number) ns))
+    (sym (ap (λ (o : Option TableMaps). option_map_or numbers_of o []) own.1))
+    (parts_found p.maps relations (edits.files_of p.manifest.listing.tables number) (numbers_of own.0)
+    (in_all (λ n. found.HasIndexes relations (get p.maps n)) (numbers_of own.0)
+    (λ n has. map_found t (get p.maps n) (of.mapped.indexed (number - 1) own.0 (subjects_of t) n own.1 wanted has) relations all)))
 
--- ---- the map of a view
+-- ---- the maps of a view
 
--- **The map of a view is the memtable of its table.**
-pub view_memtable : (p : Parts) → IsOfParts p → (number : ℕ) (h : TableMap) → slice_get (held_in p) (number - 1) ≡ Some h → views_numbered p.maps (map_numbers (current_parts p number)) ≡ h.memtable ∷ []
-view_memtable p of number h there =
+-- maps that are there
+views_are : (book : Book) (ns : List ℕ) → ((n : ℕ) → Contains ns n → (part : MapPart) × (get book n ≡ Some part)) → views_numbered book ns ≡ map (map_in book) ns
+views_are book [] there = refl
+views_are book (n ∷ ns) there =
+    let part = there n (first_in n ns) in
+    let rest = views_are book ns (λ k has. there k (later_in n ns k has)) in
+    ap₂ (λ (o : Option MapPart) (l : List MemtableView). option_map_or (λ (part : MapPart). part.map ∷ []) o [] ++ l) part.1 rest
+    ∙ ap (λ (o : Option MapPart). option_map_or (λ (part : MapPart). part.map) o (empty_memtable Lead8) ∷ map (map_in book) ns) (sym part.1)
+
+-- **The maps of a view are those of its table**, the frozen ones and the memtable.
+pub view_memtables : (p : Parts) → IsOfParts p → (number : ℕ) (h : HeldTable) → slice_get (held_in p) (number - 1) ≡ Some h → views_numbered p.maps (map_numbers (current_parts p number)) ≡ h.frozen ++ h.memtable ∷ []
+view_memtables p of number h there =
     let own = seen_as (held_by p.maps) p.tables.items (number - 1) h there in
-    let mapped = mapped_there p.maps p.last_map (wanted_of p) p.tables.items of.mapped (number - 1) own.0 own.1 in
-    ap (views_numbered p.maps) (one_map (edits.files_of p.manifest.listing.tables number) (memtable_number p.tables.items number))
-    ∙ ap (λ (o : Option TableMaps). views_numbered p.maps (option_map_or (λ (x : TableMaps). x.memtable) o 0 ∷ [])) own.1
-    ∙ ap (λ (o : Option MapPart). option_map_or (λ (part : MapPart). part.map ∷ []) o [] ++ []) mapped.3
-    ∙ ap (λ (o : Option MapPart). option_map_or (λ (part : MapPart). part.map) o (empty_memtable Lead8) ∷ []) (sym mapped.3)
-    ∙ ap (λ (x : TableMap). x.memtable ∷ []) own.2
+    ap (views_numbered p.maps) (view_numbers (edits.files_of p.manifest.listing.tables number) (table_numbers p.tables.items number) ∙ ap (λ (o : Option TableMaps). option_map_or numbers_of o []) own.1)
+    ∙ views_are p.maps (numbers_of own.0) (λ n has. let is = mapped_there p.maps p.last_map (wanted_of p) p.tables.items of.mapped (number - 1) own.0 own.1 n has in (is.0, is.3))
+    ∙ map-append (map_in p.maps) own.0.frozen (own.0.memtable ∷ [])
+    ∙ ap (λ (x : HeldTable). x.frozen ++ x.memtable ∷ []) own.2
 
 -- ---- the parts of a view
 
@@ -227,43 +234,56 @@ module _ (v : View) (sound : IsSound v) (p : Parts) (of : IsOfParts p) (ready : 
 
   -- ---- its map
 
-  held : (h : TableMap) × (slice_get (held_in p) at ≡ Some h) × (opened_table h ≡ table_in_memory t)
-  held = seen_as opened_table (held_in p) at (table_in_memory t) (ap (λ (ts : List TableInMemory). slice_get ts at) serves.tables ∙ map_there table_in_memory l.tables at t there)
+  held : (h : HeldTable) × (slice_get (held_in p) at ≡ Some h) × (held_memory h ≡ table_in_memory t)
+  held = seen_as held_memory (held_in p) at (table_in_memory t) (ap (λ (ts : List TableInMemory). slice_get ts at) serves.tables ∙ map_there table_in_memory l.tables at t there)
 
   own : (x : TableMaps) × (slice_get p.tables.items at ≡ Some x) × (held_by p.maps x ≡ held.0)
   own = seen_as (held_by p.maps) p.tables.items at held.0 held.1
 
-  mapped : (part : MapPart) × (wanted : List Subject) × (slice_get (wanted_of p) at ≡ Some wanted) × (get p.maps own.0.memtable ≡ Some part) × IsIndexed wanted part
-  mapped = mapped_there p.maps p.last_map (wanted_of p) p.tables.items of.mapped at own.0 own.1
+  abbrev views : List MemtableView
+  views = held.0.frozen ++ held.0.memtable ∷ []
 
-  unflushed_is : unflushed t ≡ held.0.memtable.partitions ∷ []
-  unflushed_is = ap (λ (s : TableInMemory). s.frozen ++ s.memtable ∷ []) (sym held.2)
+  partitions_are : unflushed_maps (held_memory held.0) ≡ map (λ (m : MemtableView). m.partitions) views
+  partitions_are = sym (map-append (λ (m : MemtableView). m.partitions) held.0.frozen (held.0.memtable ∷ []))
 
-  map_is : IsMapOf t mapped.0 (part_of_map held.0.memtable.partitions)
-  map_is = record {
-    part_is = ap (λ (h : TableMap). part_of_map h.memtable.partitions) (sym own.2)
-        ∙ ap (λ (o : Option MapPart). part_of_map (option_map_or (λ (part : MapPart). part.map) o (empty_memtable Lead8)).partitions) mapped.3;
-    own = mapped.0.indexes;
-    later = [];
-    indexes_are = sym (append-nil mapped.0.indexes);
-    subjects_are = mapped.4.subjects_are ∙ one_there mapped.1 (subjects_of (listed_of t)) (slice_get (wanted_of p) at) mapped.2 (map_there subjects_of p.manifest.listing.tables at (listed_of t) listed);
-    kept = mapped.4.kept;
-  }
+  unflushed_is : unflushed t ≡ map (λ (m : MemtableView). m.partitions) views
+  unflushed_is = ap unflushed_maps (sym held.2) ∙ partitions_are
 
-  decorated_map : AreDecorated q held.0.memtable.partitions
-  decorated_map =
-      let is = ready_in_memory q p.manifest.listing.floor p.manifest.listing.last at (memory_of p).definitions (memory_of p).tables (opened_table held.0) ready.tables (map_there opened_table (held_in p) at held.0 held.1) in
-      stored_token q p.manifest.listing.floor p.manifest.listing.last is.0 (opened_table held.0) is.1
+  numbered_is : unflushed t ≡ maps_with p.maps (numbers_of own.0)
+  numbered_is = ap unflushed_maps (sym held.2) ∙ ap (λ (h : HeldTable). unflushed_maps (held_memory h)) (sym own.2) ∙ sym (unflushed_numbers p.maps own.0)
+
+  -- each map has the indexes of the table
+  map_is : (n : ℕ) → Contains (numbers_of own.0) n → IsMapIn t (get p.maps n) (part_of_map (map_in p.maps n).partitions)
+  map_is n has =
+      let mapped = mapped_there p.maps p.last_map (wanted_of p) p.tables.items of.mapped at own.0 own.1 n has in
+      let is : IsMapOf t mapped.0 (part_of_map (map_in p.maps n).partitions) = record {
+        part_is = ap (λ (o : Option MapPart). part_of_map (option_map_or (λ (part : MapPart). part.map) o (empty_memtable Lead8)).partitions) mapped.3;
+        own = mapped.0.indexes;
+        later = [];
+        indexes_are = sym (append-nil mapped.0.indexes);
+        subjects_are = mapped.4.subjects_are ∙ one_there mapped.1 (subjects_of (listed_of t)) (slice_get (wanted_of p) at) mapped.2 (map_there subjects_of p.manifest.listing.tables at (listed_of t) listed);
+        kept = mapped.4.kept;
+      } in
+      subst (λ (o : Option MapPart). IsMapIn t o (part_of_map (map_in p.maps n).partitions)) (sym mapped.3) is
+
+  decorated_maps : AllByRecursion (λ (m : MemtableView). AreDecorated q m.partitions) views
+  decorated_maps =
+      let is = ready_in_memory q p.manifest.listing.floor p.manifest.listing.last at (memory_of p).definitions (memory_of p).tables (held_memory held.0) ready.tables (map_there held_memory (held_in p) at held.0 held.1) in
+      all_push (λ (m : MemtableView). AreDecorated q m.partitions) held.0.frozen held.0.memtable (each (types_of is.0) held.0.frozen is.1.frozen) (storable_decorated q (types_of is.0) held.0.memtable.partitions is.1.memtable)
+    where
+      each : (types : List ColumnType) (ms : List MemtableView) → AllByRecursion (AreStorable q types) (map (λ (m : MemtableView). m.partitions) ms) → AllByRecursion (λ (m : MemtableView). AreDecorated q m.partitions) ms
+      each types [] all = tt
+      each types (m ∷ ms) all = (storable_decorated q types m.partitions all.0, each types ms all.1)
 
   -- ---- its parts
 
-  view_is : current_parts p number ≡ listed_parts (map (λ (f : File). f.listed) t.files) own.0.memtable
+  view_is : current_parts p number ≡ listed_parts (map (λ (f : File). f.listed) t.files) (numbers_of own.0)
   view_is =
       ap₂ listed_parts (ap (λ (o : Option ListedDefinition). option_map_or (λ (d : ListedDefinition). d.files) o []) listed)
-      (ap (λ (o : Option TableMaps). option_map_or (λ (x : TableMaps). x.memtable) o 0) own.1)
+      (ap (λ (o : Option TableMaps). option_map_or numbers_of o []) own.1)
 
-  parts_is : parts_of t ≡ map (part_of_file t) t.files ++ part_of_map held.0.memtable.partitions ∷ []
-  parts_is = ap (λ (ms : List Partitions). map (part_of_file t) t.files ++ map part_of_map ms) unflushed_is
+  parts_is : parts_of t ≡ map (part_of_file t) t.files ++ map part_of_map (maps_with p.maps (numbers_of own.0))
+  parts_is = ap (λ (ms : List Partitions). map (part_of_file t) t.files ++ map part_of_map ms) numbered_is
 
   pub own_indexes : HasOwnIndexes t
   own_indexes = all_at HasOwnIndexes at l.tables t (all_own l (subst IsConsistent serves.listing ready.consistent)) there
@@ -272,23 +292,26 @@ module _ (v : View) (sound : IsSound v) (p : Parts) (of : IsOfParts p) (ready : 
     have : AllByRecursion (HasFile folder l.partitioner t.definition t.numbers) t.files
     have = shaped_at folder l.partitioner l.floor 1 (serves.older ++ serves.current ∷ []) l.tables at t (serves.shape folder (sound.reads folder now)).tables there
 
-    listed_are : ArePartsOf folder l.partitioner t p.maps (listed_parts (map (λ (f : File). f.listed) t.files) own.0.memtable) (map (part_of_file t) t.files ++ part_of_map held.0.memtable.partitions ∷ [])
+    maps_are : (ns : List ℕ) → ((n : ℕ) → Contains ns n → IsMapIn t (get p.maps n) (part_of_map (map_in p.maps n).partitions)) → ArePartsOf folder l.partitioner t p.maps (map (λ n. view_part.Map n) ns) (map part_of_map (maps_with p.maps ns))
+    maps_are [] each = tt
+    maps_are (n ∷ ns) each = (each n (first_in n ns), maps_are ns (λ k has. each k (later_in n ns k has)))
+
+    listed_are : ArePartsOf folder l.partitioner t p.maps (listed_parts (map (λ (f : File). f.listed) t.files) (numbers_of own.0)) (map (part_of_file t) t.files ++ map part_of_map (maps_with p.maps (numbers_of own.0)))
     listed_are =
-        files_are folder l.partitioner t p.maps t.files have (view_part.Map own.0.memtable ∷ []) (part_of_map held.0.memtable.partitions ∷ [])
-        (subst (λ (o : Option MapPart). IsMapIn t o (part_of_map held.0.memtable.partitions)) (sym mapped.3) map_is, tt)
+        files_are folder l.partitioner t p.maps t.files have (map (λ n. view_part.Map n) (numbers_of own.0)) (map part_of_map (maps_with p.maps (numbers_of own.0))) (maps_are (numbers_of own.0) map_is)
 
     -- **The current parts are those of the layout's table.**
     view_parts_are : ArePartsOf folder q t p.maps (current_parts p number) (parts_of t)
     view_parts_are =
         subst (λ (r : Partitioner). ArePartsOf folder r t p.maps (current_parts p number) (parts_of t)) under
         (subst (λ (vs : List view.Part). ArePartsOf folder l.partitioner t p.maps vs (parts_of t)) (sym view_is)
-        (subst (λ (ps : List Part). ArePartsOf folder l.partitioner t p.maps (listed_parts (map (λ (f : File). f.listed) t.files) own.0.memtable) ps) (sym parts_is) listed_are))
+        (subst (λ (ps : List Part). ArePartsOf folder l.partitioner t p.maps (listed_parts (map (λ (f : File). f.listed) t.files) (numbers_of own.0)) ps) (sym parts_is) listed_are))
 
     -- each key stands under its own token
     pub view_tokens : AreDecorated q (merged (maps_of (parts_of t)))
     view_tokens =
         let contents = file_contents folder q t.definition t.numbers t.files (subst (λ (r : Partitioner). AllByRecursion (HasFile folder r t.definition t.numbers) t.files) under have) in
-        merge_decorated q contents.0 t held.0.memtable contents.1 unflushed_is decorated_map
+        merge_decorated q contents.0 t views contents.1 unflushed_is decorated_maps
 
     -- **A plan for these relations is one for the current parts.**
     pub view_planned : (relations : List IndexedRelation) (asked : List Asked) → AreAsked t relations asked → IsPlannedFor folder q t p.maps (types_of t.definition) relations (current_parts p number) asked (parts_of t)

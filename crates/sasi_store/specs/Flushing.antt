@@ -1,4 +1,4 @@
--- A flush: the memtable of a table becomes a data file, and the log goes on in a new segment.
+-- A flush: what isn't flushed of a table becomes a data file, and the log goes on in a new segment.
 use Rattle.std.specs.Prelude.{◌≡◌, ◌≢◌, ◌+◌, ◌<◌, ◌≤◌, ℕ, suc, IsTrue, false, List, [], ◌∷◌, Contains, length, map, Some}
 use Rattle.std.specs.FinMap as map_
 use Rattle.std.specs.FinMap.{get}
@@ -26,8 +26,8 @@ use Rattle.sasi_manifest.proofs.Replacing.{At}
 use Rattle.sasi_manifest.specs.Edits.{Applies}
 use Rattle.sasi_manifest.specs.ListedFiles.{IndexesRise, names_of}
 use Rattle.sasi_manifest.specs.OpenManifest.{ManifestState, ManifestStands}
-use Rattle.sasi_memindex.specs.Book.{AreValuesOf}
-use Rattle.sasi_memtable.specs.MemtableView.{MemtableView}
+use Rattle.sasi_memindex.specs.Book.{AreValuesOf, Book}
+use Rattle.sasi_memtable.specs.MemtableView.{AreDecorated, MemtableView}
 use Rattle.sasi_pairs.specs.Gathered.{IsBuilt}
 use Rattle.sasi_pairs.specs.SealedFiles.{HasDurableIndex}
 use Rattle.sasi_layout.specs.Layout.{Layout, TableParts, bare, listing_of, numbered_indexes, unflushed}
@@ -36,10 +36,14 @@ use Rattle.sasi_layout.specs.Shape.{HasShape}
 use Rattle.sasi_layout.specs.Flushed.{flush_makes, logs_after}
 use Rattle.sasi_layout.specs.Serving.{AreStorable}
 use Rattle.sasi_layout.specs.NumbersInOrder.{HasNumbersInOrder}
-use Rattle.sasi_store.specs.Held.{KnowsDef}
+use Rattle.sasi_store.specs.Held.{KnowsDef, merged_in}
 use Rattle.sasi_store.specs.declared.flush.FlushNumbers.{FlushNumbers}
 
 -- ---- what is written
+
+-- the maps with these numbers as one memtable, in which a later one is newer
+abbrev pub whole_of : Partitioner → Book → List ℕ → MemtableView
+whole_of partitioner book numbers = record { partitioner = partitioner; partitions = merged_in book numbers }
 
 -- each partition has a body
 abbrev pub HaveBodies : Partitions → Type 0
@@ -104,6 +108,7 @@ pub record CanFlush (v : View) (manifest : ManifestState) (memtable : MemtableVi
   pub room : Reaches v (manifest_name manifest.number) (manifest.at + 1)
   pub usable : IsTrue manifest.usable
   pub partitioner : memtable.partitioner ≡ manifest.listing.partitioner
+  pub decorated : AreDecorated memtable.partitioner memtable.partitions
   pub some : 1 ≤ length (map_.entries memtable.partitions)
   pub bodies : HaveBodies memtable.partitions
   pub applies : Applies (Some manifest.listing) (edit_of n parts)

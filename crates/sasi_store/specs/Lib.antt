@@ -17,3 +17,6 @@ pub mod FlushDraws
 pub mod Flushing
 pub mod ViewParts
 pub mod Frames
+pub mod Freezing
+pub mod Clearing
+pub mod MergedMaps

@@ -8,19 +8,19 @@ use Rattle.sasi_manifest.specs.Listings.{at_number}
 use Rattle.sasi_memtable.specs.MemtableView.{with_change}
 use Rattle.sasi_model.specs.Cells.{Partition, max_timestamp_of}
 use Rattle.sasi_model.specs.State.{decorated}
-use Rattle.sasi_recover.specs.declared.opened.TableMap.{TableMap}
 use Rattle.sasi_types.specs.declared.partitioner.Partitioner.{Partitioner}
+use Rattle.sasi_store.specs.Held.{HeldTable}
 
 -- the memtable with the change of a key; the segment is the first one of the table if it has none
-abbrev pub put_map : ℕ → List ℕ → Partition → TableMap → TableMap
+abbrev pub put_map : ℕ → List ℕ → Partition → HeldTable → HeldTable
 put_map segment key change t = record t { memtable = with_change t.memtable key change; first = or_else t.first (Some segment) }
 
 -- so of the table of the mutation
-abbrev pub IsPutAt : ℕ → Mutation → List TableMap → List TableMap → Type 0
-IsPutAt segment m old new = (table : TableMap) → slice_get old (m.table - 1) ≡ Some table → new ≡ slice_set old (m.table - 1) (put_map segment m.key m.change table)
+abbrev pub IsPutAt : ℕ → Mutation → List HeldTable → List HeldTable → Type 0
+IsPutAt segment m old new = (table : HeldTable) → slice_get old (m.table - 1) ≡ Some table → new ≡ slice_set old (m.table - 1) (put_map segment m.key m.change table)
 
 -- there is a memtable for the mutation
-pub record HasTableFor (number : ℕ) (tables : List TableMap) : Type 0 where
+pub record HasTableFor (number : ℕ) (tables : List HeldTable) : Type 0 where
   pub some : 0 < number
   pub inside : number ≤ length tables
 

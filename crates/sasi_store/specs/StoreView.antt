@@ -5,12 +5,12 @@ use Rattle.sasi_types.specs.declared.partitioner.Partitioner.{Partitioner}
 use Rattle.sasi_host.specs.View.{View}
 use Rattle.sasi_layout.specs.Serving as layout
 use Rattle.sasi_layout.specs.Serving.{StoreInMemory}
-use Rattle.sasi_recover.specs.OpenedFolder.{opened_table, used_numbers}
-use Rattle.sasi_recover.specs.declared.opened.TableMap.{TableMap}
+use Rattle.sasi_memtable.specs.MemtableView.{MemtableView}
+use Rattle.sasi_recover.specs.OpenedFolder.{used_numbers}
 use Rattle.sasi_schema.specs.Numbers.{RisesFrom}
 use Rattle.sasi_views.specs.Books.{Book}
 use Rattle.sasi_views.specs.Kept.{IsCounted}
-use Rattle.sasi_store.specs.Held.{AreMapped, HasRegularIndexes, Subject, held_of, subjects_of}
+use Rattle.sasi_store.specs.Held.{AreMapped, HasRegularIndexes, HeldTable, Subject, held_of, in_memory, subjects_of}
 use Rattle.sasi_store.specs.declared.parts.Parts.{Parts}
 
 pub record StoreView : Type 0 where
@@ -37,7 +37,7 @@ HasNoneOut book = IsCounted book []
 -- ---- by its parts
 
 -- the tables with their maps
-abbrev pub held_in : Parts → List TableMap
+abbrev pub held_in : Parts → List HeldTable
 held_in p = held_of p.maps p.tables.items
 
 abbrev pub memory_of : Parts → StoreInMemory
@@ -45,17 +45,18 @@ memory_of p = record {
   definitions = p.schema.definitions;
   manifest = p.manifest;
   log = p.log;
-  tables = map opened_table (held_in p);
+  tables = map in_memory (held_in p);
   used = used_numbers p.numbers;
   max_timestamp = p.max_timestamp;
 }
 
--- the memtables are numbered from 1, and under the one partitioner
-pub record AreTables (partitioner : Partitioner) (tables : List TableMap) : Type 0 where
-  pub numbers : RisesFrom 1 (map (λ (t : TableMap). t.number) tables)
-  pub under : AllByRecursion (λ (t : TableMap). t.memtable.partitioner ≡ partitioner) tables
+-- the tables are numbered from 1, and their maps are under the one partitioner
+pub record AreTables (partitioner : Partitioner) (tables : List HeldTable) : Type 0 where
+  pub numbers : RisesFrom 1 (map (λ (t : HeldTable). t.number) tables)
+  pub under : AllByRecursion (λ (t : HeldTable). t.memtable.partitioner ≡ partitioner) tables
+  pub frozen : AllByRecursion (λ (t : HeldTable). AllByRecursion (λ (m : MemtableView). m.partitioner ≡ partitioner) t.frozen) tables
 
--- the indexes that the map of each table has
+-- the indexes that the maps of each table have
 abbrev pub wanted_of : Parts → List (List Subject)
 wanted_of p = map subjects_of p.manifest.listing.tables
 

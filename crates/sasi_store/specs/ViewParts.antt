@@ -1,10 +1,11 @@
 -- The parts that a view of a table lists.
-use Rattle.std.specs.Prelude.{ℕ, ◌-◌, List, [], ◌∷◌, ◌++◌, map, slice_get}
+use Rattle.std.specs.Prelude.{ℕ, ◌-◌, List, [], ◌++◌, map, slice_get}
 use Rattle.std.specs.Option.{option_map_or}
 use Rattle.sasi_manifest.specs.declared.files.ListedFile.{ListedFile}
 use Rattle.sasi_manifest.specs.Edits.{files_of}
 use Rattle.sasi_views.specs.declared.part.Part.{Part}
 use Rattle.sasi_views.specs.declared.part.Part.TheVariants.{File, Map}
+use Rattle.sasi_store.specs.Held.{numbers_of}
 use Rattle.sasi_store.specs.declared.parts.Parts.{Parts}
 use Rattle.sasi_store.specs.declared.table_maps.TableMaps.{TableMaps}
 
@@ -12,14 +13,14 @@ use Rattle.sasi_store.specs.declared.table_maps.TableMaps.{TableMaps}
 abbrev pub file_part : ListedFile → Part
 file_part f = File f.number f.parts
 
--- each of these data files, and then the map with this number
-abbrev pub listed_parts : List ListedFile → ℕ → List Part
-listed_parts files memtable = map file_part files ++ Map memtable ∷ []
+-- each of these data files, and then the maps with these numbers
+abbrev pub listed_parts : List ListedFile → List ℕ → List Part
+listed_parts files numbers = map file_part files ++ map (λ number. Map number) numbers
 
--- the number of the memtable of the table with this number, 0 where there is no such table
-abbrev pub memtable_number : List TableMaps → ℕ → ℕ
-memtable_number tables table = option_map_or (λ (t : TableMaps). t.memtable) (slice_get tables (table - 1)) 0
+-- the numbers of the maps of the table with this number, none where there is no such table
+abbrev pub table_numbers : List TableMaps → ℕ → List ℕ
+table_numbers tables table = option_map_or numbers_of (slice_get tables (table - 1)) []
 
--- **The current parts of the table with this number**: its listed data files, rising by number, and its memtable.
+-- **The current parts of the table with this number**: its listed data files, rising by number, its frozen maps, the oldest first, and its memtable.
 abbrev pub current_parts : Parts → ℕ → List Part
-current_parts p table = listed_parts (files_of p.manifest.listing.tables table) (memtable_number p.tables.items table)
+current_parts p table = listed_parts (files_of p.manifest.listing.tables table) (table_numbers p.tables.items table)

@@ -43,6 +43,7 @@ pub fn create<H: Host>(
     };
     parts.schema.restore_table(table)?;
     add_table(
+        parts.alloc,
         &mut parts.tables,
         &mut parts.maps,
         &mut parts.last_map,

@@ -15,7 +15,7 @@ ghost use Rattle.sasi_store.specs.Writable.{IsDefinable};
 
 use crate::StepFault;
 use crate::parts::Parts;
-use crate::table_maps::add_index;
+use crate::table_maps::add_to_all;
 use sasi_analyzers::Kit;
 use sasi_host::Host;
 use sasi_layout::NumberKind;
@@ -56,8 +56,8 @@ pub fn define<H: Host>(
     let def = index.numbered(number);
     let edits = define_edits(parts.alloc, &def)?;
     parts.manifest.append(host, &edits)?;
-    let map = parts.tables[def.table as usize - 1].memtable;
-    add_index(&mut parts.maps, kit, map, &def)?;
+    let table = &parts.tables[def.table as usize - 1];
+    add_to_all(&mut parts.maps, kit, table, &def)?;
     parts.schema.restore_index(def)?;
     parts.numbers.index = number;
     Ok(())

@@ -1,4 +1,4 @@
-// The flush of a memtable.
+// The flush of maps.
 ghost use Rattle.std.specs.Prelude.{◌≡◌, ◌+◌, ◌≤◌, ◌∷◌, [], List, length, map, IfOk, OnOk, IsTrue};
 ghost use Rattle.std.specs.List.{AllByRecursion};
 ghost use Rattle.std.specs.FinMap as fin;
@@ -14,7 +14,9 @@ ghost use Rattle.sasi_layout.specs.Layout.{Layout};
 ghost use Rattle.sasi_layout.specs.Moves.{Flush};
 ghost use Rattle.sasi_layout.specs.Between.{Between};
 ghost use Rattle.sasi_layout.specs.Flushed.{contents_of};
-ghost use Rattle.sasi_store.specs.Flushing.{AreFree, AreWritten, CanFlush, CanIndex, ChangesInFlush, HasFlushedFiles, HaveBodies, IsFlushOf, IsFlushed, MakesFiles, edit_of, file_of};
+ghost use Rattle.sasi_store.specs.Flushing.{AreFree, AreWritten, CanFlush, CanIndex, ChangesInFlush, HasFlushedFiles, HaveBodies, IsFlushOf, IsFlushed, MakesFiles, edit_of, file_of, whole_of};
+ghost use Rattle.sasi_store.specs.Held.{CanMerge, merged_in};
+ghost use Rattle.sasi_memtable.specs.MemtableView.{AreDecorated};
 
 use crate::flush_file::write_file;
 use crate::old_segments::delete_segments;
@@ -24,7 +26,7 @@ use sasi_host::{DataNumber, Host, HostFault, SegmentNumber};
 use sasi_manifest::{
     Edit, EditList, ListedFile, ListedFiles, Manifest, NumberList, PartNumber, PartNumbers,
 };
-use sasi_memtable::Memtable;
+use sasi_memindex::MapBook;
 use sasi_pairs::{Sealed, commit};
 use sasi_types::{IndexList, Partitioner, TableNumber};
 use std::alloc::{AllocError, Global};
@@ -38,7 +40,8 @@ pub struct FlushNumbers {
     pub last: SegmentNumber,
 }
 
-/// Writes a memtable to a new data file, with index files of these definitions as these parts, and creates a segment of the log.
+/// Writes the merge of the maps with these numbers, of which a later one is newer, to a new data file, with index files of these
+/// definitions as these parts, and creates a segment of the log.
 /// Once all are durable, the manifest lists them, and then the segments below the new floor are deleted. Gives the log at its
 /// new segment.
 pub fn flush<H: Host>(
@@ -46,16 +49,18 @@ pub fn flush<H: Host>(
     host: &mut H,
     kit: &mut Kit,
     manifest: &mut Manifest,
-    memtable: &Memtable,
+    maps: &MapBook,
+    unflushed: &[u64],
     defs: &IndexList,
     numbers: FlushNumbers,
     parts: &PartNumbers,
 ) -> Result<Log, HostFault>
-    requires can { CanFlush (H.view host.old) manifest.old memtable.now numbers parts.now }
-    requires indexes { CanIndex (map (λ b. kind (b.vtable, b.value)) kit.old.objects.items) memtable.now.partitions defs.now parts.now }
-    ensures any_moment { (l : Layout) (logs : List (List Mutation)) → IsFlushOf (H.view host.old) manifest.old memtable.now numbers defs.now parts.now l logs
+    requires maps { CanMerge maps.now unflushed.now }
+    requires can { CanFlush (H.view host.old) manifest.old (whole_of manifest.old.listing.partitioner maps.now unflushed.now) numbers parts.now }
+    requires indexes { CanIndex (map (λ b. kind (b.vtable, b.value)) kit.old.objects.items) (merged_in maps.now unflushed.now) defs.now parts.now }
+    ensures any_moment { (l : Layout) (logs : List (List Mutation)) → IsFlushOf (H.view host.old) manifest.old (whole_of manifest.old.listing.partitioner maps.now unflushed.now) numbers defs.now parts.now l logs
         → Changes (λ x y. Between l (Flush numbers.table ∷ []) y) (H.view host.old) (H.view host.new) }
-    ensures flushed { IfOk result (λ log. (l : Layout) (logs : List (List Mutation)) → IsFlushOf (H.view host.old) manifest.old memtable.now numbers defs.now parts.now l logs
+    ensures flushed { IfOk result (λ log. (l : Layout) (logs : List (List Mutation)) → IsFlushOf (H.view host.old) manifest.old (whole_of manifest.old.listing.partitioner maps.now unflushed.now) numbers defs.now parts.now l logs
         → IsFlushed (H.view host.new) manifest.new log numbers l logs) }
     ensures stands { OnOk result (ManifestStands (H.view host.old) manifest.old.number manifest.old.at manifest.old.listing → ManifestStands (H.view host.new) manifest.new.number manifest.new.at manifest.new.listing) }
     ensures listing { OnOk result (IsNext manifest.old.listing (edit_of numbers parts.now ∷ []) manifest.new.listing) }
@@ -80,7 +85,8 @@ pub fn flush<H: Host>(
         host,
         kit,
         partitioner,
-        memtable,
+        maps,
+        unflushed,
         defs,
         numbers,
         parts,
@@ -133,24 +139,26 @@ struct MadeFiles {
     log: Log,
 }
 
-// Writes the data file of a memtable with its index files, and creates an empty segment of the log.
+// Writes the data file of the merge of maps with its index files, and creates an empty segment of the log.
 fn make_files<H: Host>(
     alloc: Global,
     host: &mut H,
     kit: &mut Kit,
     partitioner: Partitioner,
-    memtable: &Memtable,
+    maps: &MapBook,
+    unflushed: &[u64],
     defs: &IndexList,
     numbers: FlushNumbers,
     parts: &PartNumbers,
 ) -> Result<MadeFiles, HostFault>
     requires files { AreFree (H.view host.old) (names_of (file_of numbers parts.now)) }
     requires segment { IsAbsent (H.view host.old) (log_name numbers.last) }
-    requires partitioner { memtable.now.partitioner ≡ partitioner }
-    requires some { 1 ≤ length (fin.entries memtable.now.partitions) }
-    requires bodies { HaveBodies memtable.now.partitions }
-    requires indexes { CanIndex (map (λ b. kind (b.vtable, b.value)) kit.old.objects.items) memtable.now.partitions defs.now parts.now }
-    ensures written { OnOk result (AreWritten (H.view host.new) numbers.file partitioner defs.now parts.now (contents_of memtable.now.partitions)) }
+    requires maps { CanMerge maps.now unflushed.now }
+    requires decorated { AreDecorated partitioner (merged_in maps.now unflushed.now) }
+    requires some { 1 ≤ length (fin.entries (merged_in maps.now unflushed.now)) }
+    requires bodies { HaveBodies (merged_in maps.now unflushed.now) }
+    requires indexes { CanIndex (map (λ b. kind (b.vtable, b.value)) kit.old.objects.items) (merged_in maps.now unflushed.now) defs.now parts.now }
+    ensures written { OnOk result (AreWritten (H.view host.new) numbers.file partitioner defs.now parts.now (contents_of (merged_in maps.now unflushed.now))) }
     ensures there { OnOk result (AllByRecursion (λ name. IsThere (H.view host.new) name) (names_of (file_of numbers parts.now))) }
     ensures sealed { IfOk result (λ made. made.sealed ≡ file_of numbers parts.now) }
     ensures log_end { IfOk result (λ made. IsAtLogEnd (H.view host.new) (log_name numbers.last) made.log.at []) }
@@ -167,7 +175,8 @@ fn make_files<H: Host>(
         kit,
         numbers.file,
         partitioner,
-        memtable,
+        maps,
+        unflushed,
         defs,
         parts,
     )?;

@@ -11,6 +11,8 @@ mod flush;
 mod flush_draws;
 mod flush_file;
 mod flush_table;
+mod freeze;
+mod merged_maps;
 mod old_segments;
 mod parts;
 mod rows;

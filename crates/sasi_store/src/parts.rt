@@ -6,7 +6,7 @@ ghost use Rattle.sasi_recover.specs.OpenedFolder.{opened_store};
 ghost use Rattle.sasi_recover.specs.ReplayState.{AreMaps};
 ghost use Rattle.sasi_schema.specs.Defined.{definition};
 ghost use Rattle.sasi_schema.specs.Numbers.{RisesFrom};
-ghost use Rattle.sasi_store.specs.Held.{AreMapped, CanIndexTables, held_of, wanted_rows};
+ghost use Rattle.sasi_store.specs.Held.{AreMapped, CanIndexTables, held_of, opened_held, wanted_rows};
 ghost use Rattle.sasi_store.specs.StoreView.{IsOfParts, memory_of};
 
 use crate::table_maps::{TableMaps, add_table};
@@ -52,7 +52,15 @@ pub fn parts_of(alloc: Global, kit: &mut Kit, opened: Opened) -> Result<Parts, A
     let mut tables = Vec::new(alloc);
     let mut maps = MapBook::new(alloc);
     let mut last_map = 0;
-    add_tables(&mut tables, &mut maps, &mut last_map, kit, all, listed)?;
+    add_tables(
+        alloc,
+        &mut tables,
+        &mut maps,
+        &mut last_map,
+        kit,
+        all,
+        listed,
+    )?;
     Ok(Parts {
         alloc,
         schema,
@@ -68,6 +76,7 @@ pub fn parts_of(alloc: Global, kit: &mut Kit, opened: Opened) -> Result<Parts, A
 
 // Adds the tables of an opened folder, each with its memtable and the indexes that are listed for it.
 fn add_tables(
+    alloc: Global,
     tables: &mut Vec<TableMaps>,
     maps: &mut MapBook,
     last: &mut u64,
@@ -79,12 +88,12 @@ fn add_tables(
     requires mapped { AreMapped maps.old last.old [] [] }
     requires can { CanIndexTables (map (λ b. kind (b.vtable, b.value)) kit.old.objects.items) listed.now all.items }
     ensures mapped { OnOk result (AreMapped maps.new last.new (wanted_rows listed.now) tables.new.items) }
-    ensures held { OnOk result (held_of maps.new tables.new.items ≡ all.items) }
+    ensures held { OnOk result (held_of maps.new tables.new.items ≡ map opened_held all.items) }
     ensures kinds { map (λ b. kind (b.vtable, b.value)) kit.new.objects.items ≡ map (λ b. kind (b.vtable, b.value)) kit.old.objects.items }
 {
     for table in all {
         let defs = listed[tables.len()].table.indexes.as_slice();
-        add_table(tables, maps, last, kit, table, defs)?;
+        add_table(alloc, tables, maps, last, kit, table, defs)?;
     }
     Ok(())
 }

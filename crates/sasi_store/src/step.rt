@@ -68,11 +68,11 @@ pub fn step<H: Host>(
         }
         Prepared::Write(mutation) => {
             note_number(mutation.table);
-            write(parts, host, kit, mutation)?;
+            write(parts, &session.views, host, kit, mutation)?;
             Ok(Outcome::Done)
         }
         Prepared::Flush(table) => {
-            flush_unless_empty(parts, host, kit, table)?;
+            flush_unless_empty(parts, &session.views, host, kit, table)?;
             Ok(Outcome::Done)
         }
         Prepared::Select(rows) => {

@@ -1,5 +1,5 @@
 // Writes: a mutation is logged, and then merged into its memtable.
-ghost use Rattle.std.specs.Prelude.{◌≡◌, ◌∷◌, [], OnOk, map, max};
+ghost use Rattle.std.specs.Prelude.{◌≡◌, ◌-◌, ◌∷◌, [], OnOk, Some, map, max, slice_get};
 ghost use Rattle.sasi_layout.specs.Classes.{KnowsClasses};
 ghost use Rattle.sasi_layout.specs.Moves.{Put};
 ghost use Rattle.sasi_layout.specs.Serving.{CanChange};
@@ -7,6 +7,7 @@ ghost use Rattle.sasi_layout.specs.Statements.{are_full, flush_where, moves_aske
 ghost use Rattle.sasi_model.specs.Asked.{Writes};
 ghost use Rattle.sasi_model.specs.Cells.{max_timestamp_of};
 ghost use Rattle.sasi_types.specs.Token.{AreBytes};
+ghost use Rattle.sasi_store.specs.Held.{HasMapFor, HeldTable, held_of, in_memory, unflushed_maps};
 ghost use Rattle.sasi_store.specs.MakesMoves.{Knows, MakesMoves};
 ghost use Rattle.sasi_store.specs.Puts.{HasTableFor};
 ghost use Rattle.sasi_store.specs.StoreView.{IsOfParts, held_in, memory_of};
@@ -15,21 +16,23 @@ ghost use Rattle.sasi_store.specs.Writable.{IsWritableMutation};
 use crate::StepFault;
 use crate::flush_table::flush_table;
 use crate::parts::Parts;
-use crate::table_maps::{memtable_of, merge};
+use crate::table_maps::{TableMaps, merge, size_of};
 use sasi_analyzers::Kit;
 use sasi_cells::Mutation;
 use sasi_host::Host;
-use sasi_memtable::Memtable;
+use sasi_memindex::MapBook;
 use sasi_types::TableNumber;
+use sasi_views::ViewBook;
 
-/// The memtable of a table is flushed once it has so many cells, or so many bytes of keys and values.
+/// The maps of a table are flushed once they have so many cells, or so many bytes of keys and values.
 const CELL_LIMIT: u64 = 65_536;
 
 const BYTE_LIMIT: u64 = 1 << 26;
 
-/// Puts a mutation, and flushes its table if the memtable is full then.
+/// Puts a mutation, and flushes its table if its maps are full then.
 pub fn write<H: Host>(
     parts: &mut Parts,
+    views: &ViewBook,
     host: &mut H,
     kit: &mut Kit,
     mutation: Mutation,
@@ -45,12 +48,13 @@ pub fn write<H: Host>(
 {
     let table = mutation.table;
     put(parts, host, kit, mutation)?;
-    flush_full(parts, host, kit, table)
+    flush_full(parts, views, host, kit, table)
 }
 
-// Flushes a table if its memtable is full.
+// Flushes a table if its maps are full.
 fn flush_full<H: Host>(
     parts: &mut Parts,
+    views: &ViewBook,
     host: &mut H,
     kit: &mut Kit,
     table: TableNumber,
@@ -64,17 +68,19 @@ fn flush_full<H: Host>(
     ensures parts { OnOk result (IsOfParts parts.new) }
     ensures kinds { map (λ b. kind (b.vtable, b.value)) kit.new.objects.items ≡ map (λ b. kind (b.vtable, b.value)) kit.old.objects.items }
 {
-    if is_full(memtable_of(&parts.tables, &parts.maps, table)) {
-        return flush_table(parts, host, kit, table);
+    if is_full(&parts.tables, &parts.maps, table) {
+        return flush_table(parts, views, host, kit, table);
     }
     Ok(())
 }
 
-// Whether the memtable has so many cells or bytes that it has to be flushed.
-fn is_full(memtable: &Memtable) -> bool
-    ensures { result ≡ are_full (memtable.now.partitions ∷ []) }
+// Whether the maps of a table have so many cells or bytes that it has to be flushed.
+fn is_full(tables: &[TableMaps], maps: &MapBook, table: TableNumber) -> bool
+    requires { HasMapFor table tables.now maps.now }
+    ensures { (t : HeldTable) → slice_get (held_of maps.now tables.now) (table - 1) ≡ Some t → result ≡ are_full (unflushed_maps (in_memory t)) }
 {
-    memtable.cells() >= CELL_LIMIT || memtable.bytes() >= BYTE_LIMIT
+    let (cells, bytes) = size_of(tables, maps, table);
+    cells >= CELL_LIMIT || bytes >= BYTE_LIMIT
 }
 
 // Logs a mutation, and then merges it into its memtable.

@@ -13,7 +13,7 @@ use Rattle.sasi_manifest.specs.ListedDefinition.{ListedDefinition}
 use Rattle.sasi_manifest.specs.declared.listing.Listing.{Listing}
 use Rattle.sasi_model.specs.State.{Index}
 use Rattle.sasi_memtable.specs.MemtableView.{MemtableView}
-use Rattle.sasi_recover.specs.OpenedFolder.{opened_table}
+use Rattle.sasi_store.specs.Held.{HeldTable, in_memory, opened_held}
 use Rattle.sasi_recover.specs.declared.opened.TableMap.{TableMap}
 use Rattle.sasi_schema.specs.Numbers.{RisesFrom}
 use Rattle.sasi_types.specs.declared.partitioner.Partitioner.{Partitioner}
@@ -82,9 +82,9 @@ returns-clause-makes g c =
     let listed : IsNext c.args.parts.now.manifest.listing (edits_for (memory_of c.args.parts.now) c.args.table) c.append.new.self.listing = subst (λ (es : List Edit). IsNext c.args.parts.now.manifest.listing es c.append.new.self.listing) edits e.listing in
     let p = c.args.parts.now in
     let row : TableMap = record { number = c.args.table.number; memtable = c.new.result; first = None } in
-    let pushed : map opened_table (held_of c.add_table.new.maps c.add_table.new.tables.items) ≡ map opened_table (held_in p) ++ nothing_held_yet ∷ [] =
-    ap (map opened_table) (added_held p.maps p.last_map (wanted_of p) p.tables.items c.requires.parts.mapped row [] c.add_table.new.maps c.add_table.new.tables.items c.in_ok-add_table.ensures.ok)
-    ∙ map-append opened_table (held_in p) (row ∷ []) ∙ ap (λ (m : MemtableView). map opened_table (held_in p) ++ record { first = None; frozen = []; memtable = m.partitions } ∷ []) c.new.ensures in
+    let pushed : map in_memory (held_of c.add_table.new.maps c.add_table.new.tables.items) ≡ map in_memory (held_in p) ++ nothing_held_yet ∷ [] =
+    ap (map in_memory) (added_held p.maps p.last_map (wanted_of p) p.tables.items c.requires.parts.mapped row [] c.add_table.new.maps c.add_table.new.tables.items c.in_ok-add_table.ensures.ok)
+    ∙ map-append in_memory (held_in p) (opened_held row ∷ []) ∙ ap (λ (m : MemtableView). map in_memory (held_in p) ++ record { first = None; frozen = []; memtable = m.partitions } ∷ []) c.new.ensures in
     let defined = ap (λ (v : SchemaView). v.definitions) c.in_ok-restore_table.ensures.ok in
     let memory_is : memory_of (record c.args.parts.now { schema = c.restore_table.new.self; manifest = c.append.new.self; tables = c.add_table.new.tables; maps = c.add_table.new.maps; last_map = c.add_table.new.last }) ≡ memory_after_create c.args.table c.append.new.self (memory_of c.args.parts.now) =
     λ i. record (memory_of c.args.parts.now) { definitions = defined i; manifest = c.append.new.self; tables = pushed i } in
@@ -101,8 +101,8 @@ returns-clause-parts g c =
     let p = c.args.parts.now in
     let old = held_in p in
     let count = as_many listing.partitioner listing.floor listing.last store.definitions store.tables c.requires.ready.tables in
-    let number : c.args.table.number ≡ 1 + length (map (λ (t : TableMap). t.number) old) =
-    omega (arith, count, length-map old opened_table, length-map old (λ (t : TableMap). t.number), c.requires.creatable.number) in
+    let number : c.args.table.number ≡ 1 + length (map (λ (t : HeldTable). t.number) old) =
+    omega (arith, count, length-map old in_memory, length-map old (λ (t : HeldTable). t.number), c.requires.creatable.number) in
     let edits : c.in_ok-edits.edits ≡ edits_for store c.args.table = c.in_ok-edits.ensures ∙ ap (λ (k : Listing). edit_of c.args.table k.last ∷ []) c.listing.ensures.listing in
     let listed : IsNext listing (edits_for store c.args.table) c.append.new.self.listing = subst (λ (es : List Edit). IsNext listing es c.append.new.self.listing) edits c.in_ok-append.ensures.listing in
     let same = (listed_after a b (g.met.H.Host.sound c.args.host.now) store c.args.table c.requires.ready c.requires.creatable c.append.new.self.listing listed).0 in
@@ -117,11 +117,14 @@ returns-clause-parts g c =
           (added_mapped p.maps p.last_map (wanted_of p) p.tables.items c.requires.parts.mapped row [] c.add_table.new.maps c.add_table.new.tables.items added c.add_table.new.last c.in_ok-add_table.ensures.last);
       regular = subst (AllByRecursion HasRegularIndexes) (sym rows) (all_push HasRegularIndexes listing.tables more c.requires.parts.regular (subst (AllByRecursion (λ (index : Index). 1 ≤ index.column)) (sym c.requires.creatable.unindexed) tt));
       tables = record {
-        numbers = subst (λ (ts : List TableMap). RisesFrom 1 (map (λ (t : TableMap). t.number) ts)) (sym held_is)
-            (subst (RisesFrom 1) (sym (map-append (λ (t : TableMap). t.number) old (row ∷ []))) (rises_push 1 (map (λ (t : TableMap). t.number) old) c.args.table.number c.requires.parts.tables.numbers number));
-        under = subst (λ (ts : List TableMap). AllByRecursion (λ (t : TableMap). t.memtable.partitioner ≡ c.append.new.self.listing.partitioner) ts) (sym held_is)
-            (all_push (λ (t : TableMap). t.memtable.partitioner ≡ c.append.new.self.listing.partitioner) old row
-            (subst (λ (p : Partitioner). AllByRecursion (λ (t : TableMap). t.memtable.partitioner ≡ p) old) (sym same) c.requires.parts.tables.under) under);
+        numbers = subst (λ (ts : List HeldTable). RisesFrom 1 (map (λ (t : HeldTable). t.number) ts)) (sym held_is)
+            (subst (RisesFrom 1) (sym (map-append (λ (t : HeldTable). t.number) old (opened_held row ∷ []))) (rises_push 1 (map (λ (t : HeldTable). t.number) old) c.args.table.number c.requires.parts.tables.numbers number));
+        under = subst (λ (ts : List HeldTable). AllByRecursion (λ (t : HeldTable). t.memtable.partitioner ≡ c.append.new.self.listing.partitioner) ts) (sym held_is)
+            (all_push (λ (t : HeldTable). t.memtable.partitioner ≡ c.append.new.self.listing.partitioner) old (opened_held row)
+            (subst (λ (p : Partitioner). AllByRecursion (λ (t : HeldTable). t.memtable.partitioner ≡ p) old) (sym same) c.requires.parts.tables.under) under);
+        frozen = subst (λ (ts : List HeldTable). AllByRecursion (λ (t : HeldTable). AllByRecursion (λ (m : MemtableView). m.partitioner ≡ c.append.new.self.listing.partitioner) t.frozen) ts) (sym held_is)
+            (all_push (λ (t : HeldTable). AllByRecursion (λ (m : MemtableView). m.partitioner ≡ c.append.new.self.listing.partitioner) t.frozen) old (opened_held row)
+            (subst (λ (p : Partitioner). AllByRecursion (λ (t : HeldTable). AllByRecursion (λ (m : MemtableView). m.partitioner ≡ p) t.frozen) old) (sym same) c.requires.parts.tables.frozen) tt);
       };
     }
 

@@ -14,15 +14,15 @@ use Rattle.sasi_types.specs.declared.index_def.IndexDef.{IndexDef}
 use Rattle.sasi_types.specs.declared.partitioner.Partitioner.{Partitioner}
 use Rattle.sasi_manifest.specs.ListedDefinition.{ListedDefinition}
 use Rattle.sasi_manifest.specs.Listings.{index_edit}
-use Rattle.sasi_memindex.specs.Book.{CanAdd, IsAdded}
-use Rattle.sasi_recover.specs.OpenedFolder.{opened_table}
-use Rattle.sasi_store.specs.Held.{AreMapped, HasRegularIndexes, KnowsDef, subjects_of}
+use Rattle.sasi_memindex.specs.Book.{CanAdd}
+use Rattle.sasi_store.specs.Held.{in_memory}
+use Rattle.sasi_store.specs.Held.{AreMapped, HasRegularIndexes, IsAddedToAll, KnowsDef, numbers_of, subjects_of}
 use Rattle.sasi_store.specs.MakesMoves.{MakesMoves}
 use Rattle.sasi_store.specs.StoreView.{AreTables, held_in, memory_of}
 use Rattle.sasi_store.specs.Faults.{fault_of_call}
 use Rattle.sasi_store.specs.declared.fault.StepFault.TheVariants.{OutOfMemory}
 use Rattle.sasi_store.proofs.Defining.{define_made, define_spent, define_stopped, edits_for, listed_after, memory_after_define}
-use Rattle.sasi_store.proofs.DefinedParts.{can_index, index_held, index_inside, index_mapped, index_regular}
+use Rattle.sasi_store.proofs.DefinedParts.{can_index, index_held, index_inside, index_mapped, index_regular, rising}
 use Rattle.sasi_store.proofs.TablesInMemory.{index_got}
 use Rattle.sasi_store.proofs.MoveCauses.{call_failed, call_made, call_plain, made_then_full, makes_nothing}
 use Rattle.sasi_store.proofs.define.define.Goals as goal
@@ -79,8 +79,8 @@ returns-in_err-append-clause-makes g c =
     (λ made is. c.append.ensures.any_moment made (subst (λ (es : List Edit). IsNext c.args.parts.now.manifest.listing es made) (sym edits) is)) c.append.ensures.changes c.in_err-append.ensures.causes.reads (call_plain c.in_err-append.field-0.0)
     (call_failed a b c.in_err-append.field-0.0 c.in_err-append.ensures.causes))
 
-pub index-requires : goal.index-requires
-index-requires g c =
+pub index-table-requires : goal.index-table-requires
+index-table-requires g c =
     let q = c.args.parts.now in
     let v = g.H.Host.view c.args.host.now in
     let number = suc q.numbers.index in
@@ -89,26 +89,37 @@ index-requires g c =
     let table : c.numbered-def.result.table ≡ c.args.index.table = ap (λ (d : IndexDef). d.table) def_is in
     omega (arith, inside, table, q.tables.ok.0)
 
-pub add_index-requires-clause-can : goal.add_index-requires-clause-can
-add_index-requires-clause-can g c =
+pub add_to_all-requires-clause-can : goal.add_to_all-requires-clause-can
+add_to_all-requires-clause-can g c =
     let q = c.args.parts.now in
     let v = g.H.Host.view c.args.host.now in
     let number = suc q.numbers.index in
     let def_is : c.numbered-def.result ≡ numbered_def number c.args.index = c.numbered-def.ensures ∙ ap (λ (n : ℕ). numbered_def n c.args.index) c.in_ok-number.ensures.next.next_is in
-    let row = c.index.result.now in
+    let row = c.index-table.result.now in
     let inside = index_inside v q c.requires.ready c.requires.parts c.args.index c.requires.definable in
-    let there = index_got q.tables.items (c.args.index.table - 1) row inside (subst (λ (d : IndexDef). row ≡ get_or q.tables.items (d.table - 1) row) def_is c.index.ensures) in
-    subst (λ (d : IndexDef). CanAdd d.column d.kind (get q.maps row.memtable)) (sym def_is) (can_index v q c.requires.ready c.requires.parts c.args.index c.requires.definable row there)
+    let there = index_got q.tables.items (c.args.index.table - 1) row inside (subst (λ (d : IndexDef). row ≡ get_or q.tables.items (d.table - 1) row) def_is c.index-table.ensures) in
+    subst (λ (d : IndexDef). AllByRecursion (λ n. CanAdd d.column d.kind (get q.maps n)) (numbers_of row)) (sym def_is) (can_index v q c.requires.ready c.requires.parts c.args.index c.requires.definable row there)
 
-pub add_index-requires-clause-known : goal.add_index-requires-clause-known
-add_index-requires-clause-known g c =
+pub add_to_all-requires-clause-apart : goal.add_to_all-requires-clause-apart
+add_to_all-requires-clause-apart g c =
+    let q = c.args.parts.now in
+    let v = g.H.Host.view c.args.host.now in
+    let number = suc q.numbers.index in
+    let def_is : c.numbered-def.result ≡ numbered_def number c.args.index = c.numbered-def.ensures ∙ ap (λ (n : ℕ). numbered_def n c.args.index) c.in_ok-number.ensures.next.next_is in
+    let row = c.index-table.result.now in
+    let inside = index_inside v q c.requires.ready c.requires.parts c.args.index c.requires.definable in
+    let there = index_got q.tables.items (c.args.index.table - 1) row inside (subst (λ (d : IndexDef). row ≡ get_or q.tables.items (d.table - 1) row) def_is c.index-table.ensures) in
+    rising v q c.requires.ready c.requires.parts c.args.index c.requires.definable row there
+
+pub add_to_all-requires-clause-known : goal.add_to_all-requires-clause-known
+add_to_all-requires-clause-known g c =
     let number = suc c.args.parts.now.numbers.index in
     let def_is : c.numbered-def.result ≡ numbered_def number c.args.index = c.numbered-def.ensures ∙ ap (λ (n : ℕ). numbered_def n c.args.index) c.in_ok-number.ensures.next.next_is in
     subst (KnowsDef _) (sym def_is) c.requires.needed
 
-pub returns-in_err-add_index-clause-makes : goal.returns-in_err-add_index-clause-makes
-returns-in_err-add_index-clause-makes g c =
-    let p = err_from_is_err_and c.from_residual-in_err-add_index.result c.from_residual-in_err-add_index.ensures.1 in
+pub returns-in_err-add_to_all-clause-makes : goal.returns-in_err-add_to_all-clause-makes
+returns-in_err-add_to_all-clause-makes g c =
+    let p = err_from_is_err_and c.from_residual-in_err-add_to_all.result c.from_residual-in_err-add_to_all.ensures.1 in
     let a = g.H.Host.view c.args.host.now in
     let b = g.H.Host.view c.append.new.host in
     let next = c.in_ok-number.ensures.next in
@@ -147,14 +158,13 @@ returns-clause-makes g c =
     let v = g.H.Host.view c.args.host.now in
     let number = suc q.numbers.index in
     let def_is : c.numbered-def.result ≡ numbered_def number c.args.index = c.numbered-def.ensures ∙ ap (λ (n : ℕ). numbered_def n c.args.index) c.in_ok-number.ensures.next.next_is in
-    let row = c.index.result.now in
+    let row = c.index-table.result.now in
     let inside = index_inside v q c.requires.ready c.requires.parts c.args.index c.requires.definable in
-    let there = index_got q.tables.items (c.args.index.table - 1) row inside (subst (λ (d : IndexDef). row ≡ get_or q.tables.items (d.table - 1) row) def_is c.index.ensures) in
-    let added = subst (λ (d : IndexDef). IsAdded d.number d.column d.kind d.rule (get q.maps row.memtable) (get c.add_index.new.maps row.memtable)) def_is c.in_ok-add_index.ensures.ok in
-    let others = c.in_ok-add_index.ensures.others in
-    let held = index_held v q c.requires.ready c.requires.parts c.args.index c.requires.definable row there number c.add_index.new.maps added others in
-    let memory_is : memory_of (record c.args.parts.now { schema = c.restore_index.new.self; manifest = c.append.new.self; maps = c.add_index.new.maps; numbers = record c.args.parts.now.numbers { index = c.in_ok-number.number } }) ≡ memory_after_define c.args.index c.append.new.self (memory_of c.args.parts.now) =
-    λ i. record (memory_of c.args.parts.now) { definitions = defined i; manifest = c.append.new.self; tables = map opened_table (held i); used = record (memory_of c.args.parts.now).used { index = next.next_is i } } in
+    let there = index_got q.tables.items (c.args.index.table - 1) row inside (subst (λ (d : IndexDef). row ≡ get_or q.tables.items (d.table - 1) row) def_is c.index-table.ensures) in
+    let all = subst (λ (d : IndexDef). IsAddedToAll d (numbers_of row) q.maps c.add_to_all.new.maps) def_is c.in_ok-add_to_all.ensures.ok in
+    let held = index_held v q c.requires.ready c.requires.parts c.args.index c.requires.definable row there number c.add_to_all.new.maps all in
+    let memory_is : memory_of (record c.args.parts.now { schema = c.restore_index.new.self; manifest = c.append.new.self; maps = c.add_to_all.new.maps; numbers = record c.args.parts.now.numbers { index = c.in_ok-number.number } }) ≡ memory_after_define c.args.index c.append.new.self (memory_of c.args.parts.now) =
+    λ i. record (memory_of c.args.parts.now) { definitions = defined i; manifest = c.append.new.self; tables = map in_memory (held i); used = record (memory_of c.args.parts.now).used { index = next.next_is i } } in
     subst (λ (s : StoreInMemory). MakesMoves (λ l. Define c.args.index.table (index_of_new c.args.index) ∷ []) a b (memory_of c.args.parts.now) s (Ok tt)) (sym memory_is)
     (define_made a b (g.met.H.Host.sound c.args.host.now) (memory_of c.args.parts.now) c.args.index c.requires.ready c.requires.definable fits tt c.append.new.self next.unspent
     (λ made is. e.any_moment made (subst (λ (es : List Edit). IsNext c.args.parts.now.manifest.listing es made) (sym edits) is)) e.changes e.number listed e.ok e.room e.usable e.causes.reads (call_made a b _ tt e.causes))
@@ -173,17 +183,16 @@ returns-clause-parts g c =
     let v = g.H.Host.view c.args.host.now in
     let number = suc q.numbers.index in
     let def_is : c.numbered-def.result ≡ numbered_def number c.args.index = c.numbered-def.ensures ∙ ap (λ (n : ℕ). numbered_def n c.args.index) c.in_ok-number.ensures.next.next_is in
-    let row = c.index.result.now in
+    let row = c.index-table.result.now in
     let inside = index_inside v q c.requires.ready c.requires.parts c.args.index c.requires.definable in
-    let there = index_got q.tables.items (c.args.index.table - 1) row inside (subst (λ (d : IndexDef). row ≡ get_or q.tables.items (d.table - 1) row) def_is c.index.ensures) in
-    let added = subst (λ (d : IndexDef). IsAdded d.number d.column d.kind d.rule (get q.maps row.memtable) (get c.add_index.new.maps row.memtable)) def_is c.in_ok-add_index.ensures.ok in
-    let others = c.in_ok-add_index.ensures.others in
-    let held = index_held v q c.requires.ready c.requires.parts c.args.index c.requires.definable row there number c.add_index.new.maps added others in
+    let there = index_got q.tables.items (c.args.index.table - 1) row inside (subst (λ (d : IndexDef). row ≡ get_or q.tables.items (d.table - 1) row) def_is c.index-table.ensures) in
+    let all = subst (λ (d : IndexDef). IsAddedToAll d (numbers_of row) q.maps c.add_to_all.new.maps) def_is c.in_ok-add_to_all.ensures.ok in
+    let held = index_held v q c.requires.ready c.requires.parts c.args.index c.requires.definable row there number c.add_to_all.new.maps all in
     let rows = (listed_after a b (g.met.H.Host.sound c.args.host.now) (memory_of c.args.parts.now) c.args.index c.requires.ready c.requires.definable fits c.append.new.self.listing listed).3 in
     record {
       tables = subst (AreTables c.append.new.self.listing.partitioner) (sym held) (subst (λ (p : Partitioner). AreTables p (held_in q)) (sym same) c.requires.parts.tables);
-      mapped = subst (λ (ts : List ListedDefinition). AreMapped c.add_index.new.maps q.last_map (map subjects_of ts) q.tables.items) (sym rows) (index_mapped v q c.requires.ready c.requires.parts c.args.index c.requires.definable row there number c.add_index.new.maps added others);
-      regular = subst (AllByRecursion HasRegularIndexes) (sym rows) (index_regular v q c.requires.ready c.requires.parts c.args.index c.requires.definable row there number c.add_index.new.maps added others);
+      mapped = subst (λ (ts : List ListedDefinition). AreMapped c.add_to_all.new.maps q.last_map (map subjects_of ts) q.tables.items) (sym rows) (index_mapped v q c.requires.ready c.requires.parts c.args.index c.requires.definable row there number c.add_to_all.new.maps all);
+      regular = subst (AllByRecursion HasRegularIndexes) (sym rows) (index_regular v q c.requires.ready c.requires.parts c.args.index c.requires.definable row there number c.add_to_all.new.maps all);
     }
 
 pub returns-clause-knows : goal.returns-clause-knows

@@ -1,4 +1,4 @@
-use Rattle.std.proofs.Common.{◌+◌, ◌≤◌, ◌^◌, List, length, refl, sym, ap, subst, arith, ◌∙◌}
+use Rattle.std.proofs.Common.{◌+◌, ◌≤◌, ◌^◌, List, length, refl, sym, ap, subst, arith}
 use Rattle.std.specs.Prelude.{Some}
 use Rattle.sasi_host.specs.Names.{manifest_name}
 use Rattle.sasi_host.specs.View.{Reaches}
@@ -6,23 +6,26 @@ use Rattle.sasi_manifest.specs.declared.edit.Edit.{Edit}
 use Rattle.sasi_manifest.specs.declared.listing.Listing.{Listing}
 use Rattle.sasi_manifest.specs.Edits.{AllApply, encoded}
 use Rattle.sasi_manifest.specs.Format.{IsNext}
+use Rattle.sasi_memtable.specs.MemtableView.{AreDecorated}
+use Rattle.sasi_store.specs.Flushing.{whole_of}
+use Rattle.sasi_store.specs.Held.{merged_in}
 use Rattle.sasi_store.proofs.FlushFrames.{in_flush_deleted, in_flush_listed, in_flush_made, in_flush_none, stands_on}
 use Rattle.sasi_store.proofs.FlushLaws.{flush_deleted, flush_done, flush_listed, flush_made, flush_none}
 use Rattle.sasi_store.proofs.FlushedFiles.{adds_file, files_there, floor_within, former_there, log_room, manifest_room, parts_few, record_short, room_unmade}
 use Rattle.sasi_store.proofs.flush.flush.Goals as goal
 
 pub returns-in_err-edits-clause-any_moment : goal.returns-in_err-edits-clause-any_moment
-returns-in_err-edits-clause-any_moment g c l logs is = flush_none l logs (g.H.Host.view c.args.host.now) c.args.manifest.now c.args.memtable.now c.args.numbers c.args.defs.now c.args.parts.now is (g.met.H.Host.sound c.args.host.now)
+returns-in_err-edits-clause-any_moment g c l logs is = flush_none l logs (g.H.Host.view c.args.host.now) c.args.manifest.now (whole_of c.args.manifest.now.listing.partitioner c.args.maps.now c.args.unflushed.now) c.args.numbers c.args.defs.now c.args.parts.now is (g.met.H.Host.sound c.args.host.now)
 
 pub returns-in_err-edits-clause-changes : goal.returns-in_err-edits-clause-changes
 returns-in_err-edits-clause-changes g c = in_flush_none c.args.manifest.now.number c.args.manifest.now.listing.floor c.args.numbers c.args.parts.now (g.H.Host.view c.args.host.now)
 
-pub make_files-requires-clause-partitioner : goal.make_files-requires-clause-partitioner
-make_files-requires-clause-partitioner g c = c.requires.can.partitioner ∙ sym (ap (λ (e : Listing). e.partitioner) c.listing-2.ensures.listing)
+pub make_files-requires-clause-decorated : goal.make_files-requires-clause-decorated
+make_files-requires-clause-decorated g c = subst (λ (e : Listing). AreDecorated e.partitioner (merged_in c.args.maps.now c.args.unflushed.now)) (sym c.listing-2.ensures.listing) c.requires.can.decorated
 
 pub returns-in_err-made-clause-any_moment : goal.returns-in_err-made-clause-any_moment
 returns-in_err-made-clause-any_moment g c l logs is =
-    flush_made l logs (g.H.Host.view c.args.host.now) c.args.manifest.now c.args.memtable.now c.args.numbers c.args.defs.now c.args.parts.now is (g.met.H.Host.sound c.args.host.now) (g.H.Host.view c.make_files.new.host) c.make_files.ensures.changes
+    flush_made l logs (g.H.Host.view c.args.host.now) c.args.manifest.now (whole_of c.args.manifest.now.listing.partitioner c.args.maps.now c.args.unflushed.now) c.args.numbers c.args.defs.now c.args.parts.now is (g.met.H.Host.sound c.args.host.now) (g.H.Host.view c.make_files.new.host) c.make_files.ensures.changes
 
 pub returns-in_err-made-clause-changes : goal.returns-in_err-made-clause-changes
 returns-in_err-made-clause-changes g c =
@@ -46,7 +49,7 @@ commit-requires-clause-short g c = subst (λ (es : List Edit). length (encoded e
 
 pub returns-in_err-commit-clause-any_moment : goal.returns-in_err-commit-clause-any_moment
 returns-in_err-commit-clause-any_moment g c l logs is =
-    flush_listed l logs (g.H.Host.view c.args.host.now) c.args.manifest.now c.args.memtable.now c.args.numbers c.args.defs.now c.args.parts.now is (g.met.H.Host.sound c.args.host.now)
+    flush_listed l logs (g.H.Host.view c.args.host.now) c.args.manifest.now (whole_of c.args.manifest.now.listing.partitioner c.args.maps.now c.args.unflushed.now) c.args.numbers c.args.defs.now c.args.parts.now is (g.met.H.Host.sound c.args.host.now)
     (g.H.Host.view c.make_files.new.host) (g.H.Host.view c.commit.new.host) (g.met.H.Host.sound c.make_files.new.host) c.make_files.ensures.changes c.listing-2.result.now.partitioner
     (ap (λ (e : Listing). e.partitioner) c.listing-2.ensures.listing) c.in_ok-made.ensures.written c.requires.can.some c.in_ok-made.made.log.at c.in_ok-made.ensures.log_end
     (λ next made stands. c.commit.ensures.any_moment next (subst (λ (es : List Edit). IsNext c.args.manifest.now.listing es next) (sym c.in_ok-edits.ensures) made) stands)
@@ -62,7 +65,7 @@ delete_segments-requires g c =
 
 pub returns-in_err-delete_segments-clause-any_moment : goal.returns-in_err-delete_segments-clause-any_moment
 returns-in_err-delete_segments-clause-any_moment g c l logs is =
-    flush_deleted l logs (g.H.Host.view c.args.host.now) c.args.manifest.now c.args.memtable.now c.args.numbers c.args.defs.now c.args.parts.now is (g.met.H.Host.sound c.args.host.now)
+    flush_deleted l logs (g.H.Host.view c.args.host.now) c.args.manifest.now (whole_of c.args.manifest.now.listing.partitioner c.args.maps.now c.args.unflushed.now) c.args.numbers c.args.defs.now c.args.parts.now is (g.met.H.Host.sound c.args.host.now)
     (g.H.Host.view c.make_files.new.host) (g.H.Host.view c.commit.new.host) (g.met.H.Host.sound c.make_files.new.host) c.make_files.ensures.changes c.listing-2.result.now.partitioner
     (ap (λ (e : Listing). e.partitioner) c.listing-2.ensures.listing) c.in_ok-made.ensures.written c.requires.can.some c.in_ok-made.made.log.at c.in_ok-made.ensures.log_end
     (λ next made stands. c.commit.ensures.any_moment next (subst (λ (es : List Edit). IsNext c.args.manifest.now.listing es next) (sym c.in_ok-edits.ensures) made) stands)
@@ -78,7 +81,7 @@ returns-in_err-delete_segments-clause-changes g c =
 
 pub returns-clause-any_moment : goal.returns-clause-any_moment
 returns-clause-any_moment g c l logs is =
-    flush_deleted l logs (g.H.Host.view c.args.host.now) c.args.manifest.now c.args.memtable.now c.args.numbers c.args.defs.now c.args.parts.now is (g.met.H.Host.sound c.args.host.now)
+    flush_deleted l logs (g.H.Host.view c.args.host.now) c.args.manifest.now (whole_of c.args.manifest.now.listing.partitioner c.args.maps.now c.args.unflushed.now) c.args.numbers c.args.defs.now c.args.parts.now is (g.met.H.Host.sound c.args.host.now)
     (g.H.Host.view c.make_files.new.host) (g.H.Host.view c.commit.new.host) (g.met.H.Host.sound c.make_files.new.host) c.make_files.ensures.changes c.listing-2.result.now.partitioner
     (ap (λ (e : Listing). e.partitioner) c.listing-2.ensures.listing) c.in_ok-made.ensures.written c.requires.can.some c.in_ok-made.made.log.at c.in_ok-made.ensures.log_end
     (λ next made stands. c.commit.ensures.any_moment next (subst (λ (es : List Edit). IsNext c.args.manifest.now.listing es next) (sym c.in_ok-edits.ensures) made) stands)
@@ -87,7 +90,7 @@ returns-clause-any_moment g c l logs is =
 
 pub returns-clause-flushed : goal.returns-clause-flushed
 returns-clause-flushed g c l logs is =
-    flush_done l logs (g.H.Host.view c.args.host.now) c.args.manifest.now c.args.memtable.now c.args.numbers c.args.defs.now c.args.parts.now is (g.met.H.Host.sound c.args.host.now)
+    flush_done l logs (g.H.Host.view c.args.host.now) c.args.manifest.now (whole_of c.args.manifest.now.listing.partitioner c.args.maps.now c.args.unflushed.now) c.args.numbers c.args.defs.now c.args.parts.now is (g.met.H.Host.sound c.args.host.now)
     (g.H.Host.view c.make_files.new.host) (g.H.Host.view c.commit.new.host) (g.met.H.Host.sound c.make_files.new.host) c.make_files.ensures.changes c.listing-2.result.now.partitioner
     (ap (λ (e : Listing). e.partitioner) c.listing-2.ensures.listing) c.in_ok-made.ensures.written c.requires.can.some c.in_ok-made.made.log.at c.in_ok-made.ensures.log_end
     (λ next made stands. c.commit.ensures.any_moment next (subst (λ (es : List Edit). IsNext c.args.manifest.now.listing es next) (sym c.in_ok-edits.ensures) made) stands)

@@ -1,4 +1,5 @@
 use Rattle.sasi_layout.specs.Flushed.{contents_of}
+use Rattle.sasi_store.specs.Held.{merged_in}
 use Rattle.sasi_store.proofs.FlushedFiles.{data_made, log_keeps, segment_absent, segment_made, still_written, written_there}
 use Rattle.sasi_store.proofs.flush.make_files.Goals as goal
 
@@ -18,10 +19,10 @@ returns-clause-changes g c =
 
 pub returns-clause-written : goal.returns-clause-written
 returns-clause-written g c =
-    still_written c.args.numbers c.args.partitioner c.args.defs.now (contents_of c.args.memtable.now.partitions) (g.H.Host.view c.write_file.new.host) (g.H.Host.view c.create.new.host) c.create.ensures.changes c.args.parts.now
+    still_written c.args.numbers c.args.partitioner c.args.defs.now (contents_of (merged_in c.args.maps.now c.args.unflushed.now)) (g.H.Host.view c.write_file.new.host) (g.H.Host.view c.create.new.host) c.create.ensures.changes c.args.parts.now
     c.in_ok-sealed.ensures.written
 
 pub returns-clause-there : goal.returns-clause-there
 returns-clause-there g c =
     log_keeps c.args.numbers c.args.parts.now (g.H.Host.view c.write_file.new.host) (g.H.Host.view c.create.new.host) c.create.ensures.changes
-    (written_there c.args.numbers c.args.parts.now c.args.partitioner c.args.defs.now (contents_of c.args.memtable.now.partitions) (g.H.Host.view c.write_file.new.host) (g.met.H.Host.sound c.write_file.new.host) c.in_ok-sealed.ensures.written)
+    (written_there c.args.numbers c.args.parts.now c.args.partitioner c.args.defs.now (contents_of (merged_in c.args.maps.now c.args.unflushed.now)) (g.H.Host.view c.write_file.new.host) (g.met.H.Host.sound c.write_file.new.host) c.in_ok-sealed.ensures.written)

@@ -6,7 +6,7 @@ use Rattle.sasi_memindex.specs.Book.{bare}
 use Rattle.sasi_types.specs.declared.class.Class.{Class}
 use Rattle.sasi_types.specs.declared.index_def.IndexDef.{IndexDef}
 use Rattle.sasi_recover.specs.declared.opened.TableMap.{TableMap}
-use Rattle.sasi_store.specs.Held.{AreMapped, CanAddAll, CanIndexTables, IsAddedTo, KnowsDef, held_of, wanted_rows}
+use Rattle.sasi_store.specs.Held.{AreMapped, CanAddAll, CanIndexTables, IsAddedTo, KnowsDef, held_of, opened_held, wanted_rows}
 use Rattle.sasi_store.specs.declared.table_maps.TableMaps.{TableMaps}
 use Rattle.sasi_store.proofs.OpenedMaps.{adding_held, adding_mapped, adding_more, next_can, next_known, row_inside}
 use Rattle.sasi_store.proofs.parts.add_tables.Goals as goal
@@ -23,7 +23,7 @@ loop-table-init g c =
     record {
       on = record {
         mapped = subst (λ (ts : List TableMaps). AreMapped c.args.maps.now c.args.last.now (wanted_rows (take (length ts) rows)) ts) (sym none) c.requires.mapped;
-        held = ap (λ (ts : List TableMaps). held_of c.args.maps.now ts ++ into_iter_items start) none;
+        held = ap (λ (ts : List TableMaps). held_of c.args.maps.now ts ++ map opened_held (into_iter_items start)) none;
         can = subst (λ (ts : List TableMaps). CanIndexTables (map (λ b. (goal.Analyzer-dyn g (b.vtable, b.value)).kind b.value) c.args.kit.now.objects.items) (drop (length ts) rows) (into_iter_items start)) (sym none)
             (subst (CanIndexTables (map (λ b. (goal.Analyzer-dyn g (b.vtable, b.value)).kind b.value) c.args.kit.now.objects.items) rows) (sym c.into_iter-table-iterator.ensures.into_iter_gives.0) c.requires.can);
       };
@@ -92,4 +92,4 @@ returns-clause-held g c =
     let at = c.loop-table in
     let none = c.in-None.ensures.steps in
     let empty : into_iter_items at.table-iterator ≡ [] = nothing_left _ (sym at.invariant.count ∙ none.0) in
-    adding_held (map (λ b. (goal.Analyzer-dyn g (b.vtable, b.value)).kind b.value) c.args.kit.now.objects.items) c.args.listed.now _ _ at.maps at.last at.tables.items at.invariant.on empty ∙ c.into_iter-table-iterator.ensures.into_iter_gives.0
+    adding_held (map (λ b. (goal.Analyzer-dyn g (b.vtable, b.value)).kind b.value) c.args.kit.now.objects.items) c.args.listed.now _ _ at.maps at.last at.tables.items at.invariant.on empty ∙ ap (map opened_held) c.into_iter-table-iterator.ensures.into_iter_gives.0

@@ -6,14 +6,13 @@ use Rattle.sasi_manifest.specs.ListedTables.{listed}
 use Rattle.sasi_manifest.specs.declared.listing.Listing.{Listing}
 use Rattle.sasi_manifest.specs.Listings.{listed_definitions}
 use Rattle.sasi_memindex.specs.Book.{Book}
-use Rattle.sasi_recover.specs.OpenedFolder.{opened_store, opened_table}
+use Rattle.sasi_recover.specs.OpenedFolder.{opened_store}
 use Rattle.sasi_recover.specs.ReplayState.{AreMapsFrom}
-use Rattle.sasi_recover.specs.declared.opened.TableMap.{TableMap}
-use Rattle.sasi_store.specs.Held.{AreMapped, HasRegularIndexes, Subject, subjects_of}
+use Rattle.sasi_store.specs.Held.{AreMapped, HasRegularIndexes, HeldTable, Subject, in_memory, subjects_of}
 use Rattle.sasi_store.specs.StoreView.{AreTables}
 use Rattle.sasi_store.proofs.ListedSchema.{seen_definitions}
 use Rattle.sasi_store.proofs.OpenedMaps.{can_open, mapped_none, rows_regular, rows_wanted}
-use Rattle.sasi_store.proofs.TablesInMemory.{opened_tables}
+use Rattle.sasi_store.proofs.TablesInMemory.{opened_memory, opened_tables}
 use Rattle.sasi_store.proofs.parts.parts_of.Goals as goal
 
 pub add_tables-requires-clause-mapped : goal.add_tables-requires-clause-mapped
@@ -32,15 +31,15 @@ returns-clause-memory g c =
     let opened = c.args.opened in
     let rows = c.as_slice-listed.ensures.tables ∙ ap (λ (l : Listing). l.tables) c.listing.ensures.listing in
     let definitions = c.in_ok-schema.ensures ∙ seen_definitions c.as_slice-listed.result.now ∙ ap listed_definitions rows in
-    let held = c.in_ok-add_tables.ensures.held in
-    λ i. record (opened_store opened) { definitions = definitions i; tables = map opened_table (held i) }
+    let tables = ap (map in_memory) c.in_ok-add_tables.ensures.held ∙ opened_memory opened.tables.items in
+    λ i. record (opened_store opened) { definitions = definitions i; tables = tables i }
 
 pub returns-clause-parts : goal.returns-clause-parts
 returns-clause-parts g c =
     let opened = c.args.opened in
     let rows : map listed c.as_slice-listed.result.now ≡ opened.manifest.listing.tables = c.as_slice-listed.ensures.tables ∙ ap (λ (l : Listing). l.tables) c.listing.ensures.listing in
     record {
-      tables = subst (λ (xs : List TableMap). AreTables opened.manifest.listing.partitioner xs) (sym c.in_ok-add_tables.ensures.held) (opened_tables opened.manifest.listing opened.tables.items c.requires.maps);
+      tables = subst (λ (xs : List HeldTable). AreTables opened.manifest.listing.partitioner xs) (sym c.in_ok-add_tables.ensures.held) (opened_tables opened.manifest.listing opened.tables.items c.requires.maps);
       mapped = subst (λ (w : List (List Subject)). AreMapped c.add_tables.new.maps c.add_tables.new.last w c.add_tables.new.tables.items) (sym (rows_wanted c.as_slice-listed.result.now) ∙ ap (map subjects_of) rows) c.in_ok-add_tables.ensures.mapped;
       regular = subst (AllByRecursion HasRegularIndexes) rows (rows_regular c.as_slice-listed.result.now);
     }

@@ -42,7 +42,7 @@ take-requires-clause-room g c = omega (arith, c.requires.none_out.out)
 
 pub take-requires-clause-once : goal.take-requires-clause-once
 take-requires-clause-once g c =
-    subst ListsOnce (sym c.in_ok-current.ensures) (view_once (g.H.Host.view c.args.host.now) c.args.parts.now c.requires.ready c.args.rows.now.table)
+    subst ListsOnce (sym c.in_ok-current.ensures) (view_once (g.H.Host.view c.args.host.now) c.args.parts.now c.requires.ready c.args.rows.now.table c.requires.parts)
 
 pub returns-in_err-view-clause-reads : goal.returns-in_err-view-clause-reads
 returns-in_err-view-clause-reads g c l serves short = omega arith

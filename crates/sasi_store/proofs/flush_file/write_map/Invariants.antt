@@ -1,7 +1,7 @@
 use Rattle.std.proofs.Common.{◌≡◌, map}
 use Rattle.std.specs.FinMap as fin
 use Rattle.sasi_store.proofs.MapWriting.{WritesMap}
-use Rattle.sasi_store.proofs.flush_file.write_partitions.Given as goal
+use Rattle.sasi_store.proofs.flush_file.write_map.Given as goal
 
 abbrev pub invariant-loop-key : goal.invariant-loop-key
 invariant-loop-key g l = record {
