@@ -1,2 +1,2 @@
-mod MapLaws
-mod AskedPlans
+pub mod MapLaws
+pub mod AskedPlans

@@ -51,4 +51,3 @@ pub mod ViewWorlds
 pub mod Planned
 pub mod SelectWorlds
 pub mod ViewDamage
-pub mod ReadRows

@@ -51,7 +51,7 @@ use Rattle.sasi_plan.specs.Reading.{IsBounded, IsBoundedBy, IsMadeFor, IsReadIn,
 use Rattle.sasi_plan.specs.declared.plan.PlanSource.{PlanSource}
 use Rattle.sasi_plan.specs.declared.plan.PlanSource.TheVariants.{Nothing, OfKey, OfTable}
 use Rattle.sasi_plan.proofs.PlanLaws.{relations_asked}
-use Rattle.sasi_store.specs.Printing.{picked_lines, row_picked}
+use Rattle.sasi_fetch.specs.Printing.{picked_lines, row_picked}
 use Rattle.sasi_store.specs.Selects.{AreShortFor, AreShortIn, HasShortFiles, IsPlanFor, asked_reads, conditions_on, rows_reads, selection_reads, unindexed_reads}
 use Rattle.sasi_store.specs.StoreView.{IsOfParts, memory_of}
 use Rattle.sasi_store.specs.Tables.{content_of}

@@ -7,7 +7,6 @@ pub mod MakesMoves
 pub mod Puts
 pub mod Writable
 pub mod Tables
-pub mod Printing
 pub mod Selects
 pub mod Worlds
 pub mod Steps

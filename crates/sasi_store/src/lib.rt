@@ -15,7 +15,6 @@ mod freeze;
 mod merged_maps;
 mod old_segments;
 mod parts;
-mod rows;
 mod select;
 mod session_state;
 mod show_files;

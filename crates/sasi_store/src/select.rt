@@ -17,11 +17,12 @@ ghost use Rattle.sasi_store.specs.Worlds.{rows_tail, selection_checks};
 
 use crate::StepFault;
 use crate::parts::Parts;
-use crate::rows::print_rows;
+
 use crate::session_state::SessionState;
 use crate::view_parts::view_parts;
 use sasi_analyzers::Kit;
 use sasi_cache::Cached;
+use sasi_fetch::print_rows;
 use sasi_host::{Direct, Host, PageReader, ReadFault};
 use sasi_machine::{Reply, Selection};
 use sasi_plan::{Plan, Reader};

@@ -19,7 +19,7 @@ use Rattle.sasi_scan.specs.Numbered.{views_numbered}
 use Rattle.sasi_plan.specs.Answers.{CountsTo, ReadsLeft, RowsLeft}
 use Rattle.sasi_plan.specs.Reading.{IsReadIn, PendingReady, PendingShows, plan_reads}
 use Rattle.sasi_plan.specs.contracts.plan_candidates.PlanCandidatesCandidates.TheImpl as source
-use Rattle.sasi_store.specs.Printing.{picked_lines}
+use Rattle.sasi_fetch.specs.Printing.{picked_lines}
 use Rattle.sasi_store.specs.StoreView.{HasNoneOut}
 use Rattle.sasi_store.proofs.Planned.{plan_prints, plan_ready}
 use Rattle.sasi_store.proofs.SelectWorlds.{checks_are, if_ok, plan_bounded, reads_within, rows_are, rows_asked, world, world_read}

@@ -5,8 +5,8 @@ use Rattle.sasi_model.specs.Abbreviations.{row_line}
 use Rattle.sasi_model.specs.Cells.{Partition}
 use Rattle.sasi_plan.specs.Answers.{GivesNext, RowsLeft}
 use Rattle.sasi_plan.specs.contracts.plan_candidates.PlanCandidatesCandidates.TheImpl as source
-use Rattle.sasi_store.specs.Printing.{row_picked}
-use Rattle.sasi_store.proofs.rows.print_next.Goals as goal
+use Rattle.sasi_fetch.specs.Printing.{row_picked}
+use Rattle.sasi_fetch.proofs.rows.print_next.Goals as goal
 
 pub returns-in_err-key-clause-reads : goal.returns-in_err-key-clause-reads
 returns-in_err-key-clause-reads g c most left =
