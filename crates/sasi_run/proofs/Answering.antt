@@ -28,7 +28,8 @@ use Rattle.sasi_machine.specs.Prepares.{IsStateOf}
 use Rattle.sasi_recover.specs.OpenedFolder.{AnyFolderChange}
 use Rattle.sasi_store.specs.Answers.{Answered, AnsweredButRows}
 use Rattle.sasi_store.specs.Faults.{OnMissing, OnSpent, OnStepDamage}
-use Rattle.sasi_store.specs.StoreView.{IsReady, StoreView}
+use Rattle.sasi_store.specs.StoreView.{IsReady, store_memory}
+use Rattle.sasi_store.specs.declared.store.Store.{Store}
 use Rattle.sasi_store.specs.declared.fault.StepFault.{StepFault}
 use Rattle.sasi_store.specs.declared.fault.StepFault.TheVariants as fault
 use Rattle.sasi_run.specs.EmitCounts.{emits_of}
@@ -48,18 +49,18 @@ use Rattle.sasi_run.proofs.RunParts.{appends_none, ran_both, ran_nothing, reads_
 -- what a store promises of a piece that it didn't do
 pub record StepFailed (kinds : List Class) (fault : StepFault) (session : Session) (a b : View) (piece : Piece) : Type 0 where
   pub change : Changes AnyFolderChange a b
-  pub moments : (w : World) → ServesWorld a session.store.memory session.store.trace w → Changes (λ x y. Between w.layout (steps.moves w piece) y) a b
-  pub spends : OnSpent (λ kind. (w : World) → ServesWorld a session.store.memory session.store.trace w → spent w.layout (steps.moves w piece) ≡ Some kind) fault
-  pub undamaged : (w : World) → ServesWorld a session.store.memory session.store.trace w → OnStepDamage (λ _. ⊥) fault
-  pub analyzer : OnSpent (λ kind. HasNeeded kinds (class_needed (asks (known_in_memory session.store.memory) piece))) fault
-  pub lacks : OnMissing (LacksNeeded kinds (asks (known_in_memory session.store.memory) piece)) fault
+  pub moments : (w : World) → ServesWorld a session.store w → Changes (λ x y. Between w.layout (steps.moves w piece) y) a b
+  pub spends : OnSpent (λ kind. (w : World) → ServesWorld a session.store w → spent w.layout (steps.moves w piece) ≡ Some kind) fault
+  pub undamaged : (w : World) → ServesWorld a session.store w → OnStepDamage (λ _. ⊥) fault
+  pub analyzer : OnSpent (λ kind. HasNeeded kinds (class_needed (asks (known_in_memory (store_memory session.store)) piece))) fault
+  pub lacks : OnMissing (LacksNeeded kinds (asks (known_in_memory (store_memory session.store)) piece)) fault
 
 -- what the store judges a piece by is what is known of the layout that it serves
-known_served : (v : View) (store : StoreView) (w : World) → ServesWorld v store.memory store.trace w → known_in_memory store.memory ≡ known_in w.layout
+known_served : (v : View) (store : Store) (w : World) → ServesWorld v store w → known_in_memory (store_memory store) ≡ known_in w.layout
 known_served v store w serves = λ i. record { tables = serves.serves.definitions i; max_timestamp = serves.serves.timestamp i }
 
 stopped_moving : {kinds : List Class} (f : StepFault) (session : Session) (a b : View) (piece : Piece) → StepFailed kinds f session a b piece → (w : World)
-    → ServesWorld a session.store.memory session.store.trace w → StoppedPieces kinds (stop_of f) w [] (piece ∷ []) a b
+    → ServesWorld a session.store w → StoppedPieces kinds (stop_of f) w [] (piece ∷ []) a b
 stopped_moving fault.Failed session a b piece failed w serves = record {
   shown = unmoved a b failed.change.emitted;
   crashes = leaves_moved a b w piece (failed.moments w serves);
@@ -119,23 +120,23 @@ pub fails_moving : {kinds : List Class} (f : StepFault) (session : Session) (a b
 fails_moving f session a b piece failed = record {
   anywhere = λ x s of. record { shown = []; emitted = unmoved a b failed.change.emitted; replies = stopped_silent f x s piece };
   stopped = λ w serves. stopped_moving f session a b piece failed w serves;
-  lacks = missing_lacks _ f (asks (known_in_memory session.store.memory) piece) failed.lacks;
+  lacks = missing_lacks _ f (asks (known_in_memory (store_memory session.store)) piece) failed.lacks;
 }
 
 -- what a store promises of a piece that it did
-pub record StepDone (kinds : List Class) (session : Session) (later : StoreView) (a b : View) (piece : Piece) (reply : List ℕ) (outcome : Outcome) : Type 0 where
+pub record StepDone (kinds : List Class) (session : Session) (later : Store) (a b : View) (piece : Piece) (reply : List ℕ) (outcome : Outcome) : Type 0 where
   pub change : Changes AnyFolderChange a b
-  pub moments : (w : World) → ServesWorld a session.store.memory session.store.trace w → Changes (λ x y. Between w.layout (steps.moves w piece) y) a b
-  pub answers : (w : World) → ServesWorld a session.store.memory session.store.trace w → Answered b later.memory later.trace w piece reply outcome
-  pub anywhere : (x : SessionState) (s : State) → HasNoCursor x → IsStateOf (known_in_memory session.store.memory) s → AnsweredButRows later.memory x s piece reply outcome
-  pub analyzer : HasNeeded kinds (class_needed (asks (known_in_memory session.store.memory) piece))
+  pub moments : (w : World) → ServesWorld a session.store w → Changes (λ x y. Between w.layout (steps.moves w piece) y) a b
+  pub answers : (w : World) → ServesWorld a session.store w → Answered b later.parts later.session w piece reply outcome
+  pub anywhere : (x : SessionState) (s : State) → HasNoCursor x → IsStateOf (known_in_memory (store_memory session.store)) s → AnsweredButRows later.parts later.session x s piece reply outcome
+  pub analyzer : HasNeeded kinds (class_needed (asks (known_in_memory (store_memory session.store)) piece))
 
-module _ {kinds : List Class} (session : Session) (later : StoreView) (a b d : View) (piece : Piece) (reply bytes : List ℕ) (outcome : Outcome)
+module _ {kinds : List Class} (session : Session) (later : Store) (a b d : View) (piece : Piece) (reply bytes : List ℕ) (outcome : Outcome)
     (done : StepDone kinds session later a b piece reply outcome) (same : bytes ≡ reply) (emits : Emits bytes b d) where
-  crashes : (w : World) → ServesWorld a session.store.memory session.store.trace w → CrashLeavesPieces a d w (piece ∷ [])
+  crashes : (w : World) → ServesWorld a session.store w → CrashLeavesPieces a d w (piece ∷ [])
   crashes w serves =
       let is = done.answers w serves in
-      leaves_answered a b w piece (done.moments w serves) d bytes (same ∙ is.reply_is) (each_of_shape b later.memory _ is.serves.serves) emits
+      leaves_answered a b w piece (done.moments w serves) d bytes (same ∙ is.reply_is) (each_of_shape b (store_memory later) _ is.serves.serves) emits
 
   -- the reply was not emitted whole
   pub fails_shown : d.emits ≡ counted b.emits → FailsCrashSafe kinds Output session a d (piece ∷ [])
@@ -177,7 +178,7 @@ module _ {kinds : List Class} (session : Session) (later : StoreView) (a b d : V
     anywhere = λ x s of.
         let is = done.anywhere x s of.cursors of.known in
         record {
-          state = subst (λ (k : StoreView). IsOfState k (session_by grammar_parser x s piece) (state_after s (piece ∷ []))) (sym store_is) (record { known = is.state_is; cursors = is.cursors_are });
+          state = subst (λ (k : Store). IsOfState k (session_by grammar_parser x s piece) (state_after s (piece ∷ []))) (sym store_is) (record { known = is.state_is; cursors = is.cursors_are });
           shown = bytes;
           emitted = subst (λ (l : Option (List ℕ)). Appends l d.emitted bytes) done.change.emitted all;
           replies = (bytes, [], sym (append-nil bytes), (λ none. same ∙ is.reply_is none), refl);
@@ -187,7 +188,7 @@ module _ {kinds : List Class} (session : Session) (later : StoreView) (a b d : V
     ran = λ w serves.
         (let is = done.answers w serves in
         record {
-          serves = rw store_is (record { serves = serves_still b d later.memory _ emits.files emits.image is.serves.serves; trace_is = is.serves.trace_is; cursors_are = is.serves.cursors_are });
+          serves = rw store_is (record { serves = serves_still b d (store_memory later) _ emits.files emits.image is.serves.serves; trace_is = is.serves.trace_is; cursors_are = is.serves.cursors_are });
           shown = subst (λ (r : List ℕ). Appends a.emitted d.emitted r) (same ∙ is.reply_is ∙ sym (append-nil (steps.reply w piece)))
               (subst (λ (l : Option (List ℕ)). Appends l d.emitted bytes) done.change.emitted all);
           count = count ∙ ap (counted_outcome session.refused) is.outcome_is ∙ counts session.refused (refused_by grammar_parser w.session (state_of w.layout) piece) small;
@@ -229,7 +230,7 @@ feeds_nothing session a ready small = record {
 -- `stand` is the session with what the splitter has read since
 module _ (old stand : Session) (store : stand.store ≡ old.store) (count : stand.refused ≡ old.refused) where
   stands_of : (x : SessionState) (s : State) → IsOfState old.store x s → IsOfState stand.store x s
-  stands_of x s of = subst (λ (k : StoreView). IsOfState k x s) (sym store) of
+  stands_of x s of = subst (λ (k : Store). IsOfState k x s) (sym store) of
 
   ran_from : {kinds : List Class} (w : World) (pieces : List Piece) (new : Session) (a b : View) → RanPieces kinds w pieces stand new a b → RanPieces kinds w pieces old new a b
   ran_from w pieces new a b ran = record {
@@ -342,5 +343,5 @@ stops_later stop old mid a b c bytes xs ys rest t u parts = record {
 -- ---- the state of a store
 
 -- the state of the world that a store serves has its definitions and its largest timestamp
-pub state_served : (v : View) (store : StoreView) (w : World) → ServesWorld v store.memory store.trace w → IsStateOf (known_in_memory store.memory) (state_of w.layout)
+pub state_served : (v : View) (store : Store) (w : World) → ServesWorld v store w → IsStateOf (known_in_memory (store_memory store)) (state_of w.layout)
 state_served v store w serves = sym (known_is w.layout) ∙ sym (known_served v store w serves)

@@ -7,7 +7,7 @@ use Rattle.sasi_model.specs.Pieces.{Piece}
 use Rattle.sasi_model.specs.Sessions.{SessionState, new_session, refusals_by, session_by, sessions_by}
 use Rattle.sasi_model.specs.State.{State}
 use Rattle.sasi_model.specs.Step.{state_after, step}
-use Rattle.sasi_store.specs.StoreView.{StoreView}
+use Rattle.sasi_store.specs.declared.store.Store.{Store}
 use Rattle.sasi_run.specs.Crashing.{EmittedButStored, IsOfState, RanButStored, StoppedButStored}
 use Rattle.sasi_run.specs.Headline.{AreRepliesButStored, EmitsByStatus, IsFirstPart, IsReplyButStored, READ_MOST, ReadsToEnd, Runs, SCRIPT_MOST, but_stored, script_of, status_of_stop}
 use Rattle.sasi_run.specs.declared.session.Session.{Session}
@@ -41,7 +41,7 @@ replied_both (p ∷ xs) ys x s a b (reply, others, parts, is, rest) second =
 pub ran_nothing_but : (x : SessionState) (s : State) (old new : Session) (a : View) → old.refused < 2 ^ 64 → new.store ≡ old.store → new.refused ≡ old.refused
     → IsOfState old.store x s → RanButStored x s [] old new a a
 ran_nothing_but x s old new a small store count of = record {
-  state = subst (λ (k : StoreView). IsOfState k x s) (sym store) of;
+  state = subst (λ (k : Store). IsOfState k x s) (sym store) of;
   shown = [];
   emitted = appends_none a.emitted;
   replies = refl;

@@ -23,7 +23,7 @@ use Rattle.sasi_recover.specs.KeptListed.{KeepsListed}
 use Rattle.sasi_recover.specs.NewFolder.{IsForeign}
 use Rattle.sasi_recover.specs.declared.fault.OpenFault.{OpenFault}
 use Rattle.sasi_recover.specs.declared.fault.OpenFault.TheVariants as open_fault
-use Rattle.sasi_store.specs.StoreView.{StoreView}
+use Rattle.sasi_store.specs.declared.store.Store.{Store}
 use Rattle.sasi_run.specs.Causes.{ComparesPartitioners, FailedCalls, IsOfStore, IsRefusal, LacksAtStart, TellsLack, ReportsAtStart, ReportsDifference, ReportsNow, RunCauses}
 use Rattle.sasi_run.specs.CommandLine.{IsCommandLine, asked_by}
 use Rattle.sasi_run.specs.Crashing.{IsOfState, RunsCrashSafe}
@@ -184,12 +184,12 @@ module _ (T : Type 0) (words : List (List ℕ)) (kinds : List Class) (script : S
 -- ---- the script was run
 
 -- what an opening promises that succeeded
-pub record OpenDone (words : List (List ℕ)) (kinds : List Class) (store : StoreView) (a b : View) : Type 0 where
+pub record OpenDone (words : List (List ℕ)) (kinds : List Class) (store : Store) (a b : View) : Type 0 where
   pub state : (s : State) × IsOfState store new_session s
   pub silent : b.emitted ≡ a.emitted
   pub none_out : b.emits ≡ a.emits
   pub opens : (folder : Folder) → a.files ≡ Some folder → CanOpen folder
-  pub serves : (folder : Folder) (l : Layout) → a.files ≡ Some folder → ShapeOf (asked_by words) folder l → ServesWorld b store.memory store.trace (new_world l)
+  pub serves : (folder : Folder) (l : Layout) → a.files ≡ Some folder → ShapeOf (asked_by words) folder l → ServesWorld b store (new_world l)
   pub agrees : (folder : Folder) (wanted kept : Partitioner) → a.files ≡ Some folder → asked_by words ≡ Some wanted → KeepsPartitioner folder kept → wanted ≢ kept → ⊥
   pub complete : (folder : Folder) (class : Class) → a.files ≡ Some folder → LacksClass kinds folder class → ⊥
 
@@ -199,7 +199,7 @@ of_store_used status of is = subst (λ (s : Status). IsOfStore s) is of
 of_store_differs : (status : Status) (asked kept : Partitioner) → IsOfStore status → status ≢ PartitionerDiffers asked kept
 of_store_differs status asked kept of is = subst (λ (s : Status). IsOfStore s) is of
 
-pub causes_opened : {kinds : List Class} (words : List (List ℕ)) (status : Status) (script later : SourceView) (a b c : View) (store : StoreView) → IsCommandLine words
+pub causes_opened : {kinds : List Class} (words : List (List ℕ)) (status : Status) (script later : SourceView) (a b c : View) (store : Store) → IsCommandLine words
     → OpenDone words kinds store a b → RunsCrashSafe kinds status store script.left later.left b c → FailedCalls status script later a c → ReportsNow status c → IsOfStore status
     → RunCauses words kinds status script later a c
 causes_opened words status script later a b c store are opened on calls reports of = record {

@@ -62,7 +62,7 @@ around xs i h = sym (take-append-drop (i + 1) xs) ∙ ap (λ t. t ++ drop (i + 1
 
 -- nothing was
 pub ran_nothing : {kinds : List Class} (w : World) (old new : Session) (a : View) → old.refused < 2 ^ 64 → new.store ≡ old.store → new.refused ≡ old.refused
-    → ServesWorld a old.store.memory old.store.trace w → RanPieces kinds w [] old new a a
+    → ServesWorld a old.store w → RanPieces kinds w [] old new a a
 ran_nothing w old new a small store count serves = record {
   serves = rw store serves;
   shown = appends_none a.emitted;
@@ -78,7 +78,7 @@ pub ran_both : {kinds : List Class} (w : World) (xs ys : List Piece) (old mid ne
 ran_both w xs ys old mid new a b c t u =
     let later : World = after_pieces steps w xs in
     record {
-      serves = subst (λ (k : World). ServesWorld c new.store.memory new.store.trace k) (sym (after_both xs ys w)) u.serves;
+      serves = subst (λ (k : World). ServesWorld c new.store k) (sym (after_both xs ys w)) u.serves;
       shown = subst (λ (l : List ℕ). Appends a.emitted c.emitted l) (sym (replies_both xs ys w)) (appends_both a.emitted b.emitted c.emitted _ _ t.shown u.shown);
       count = u.count ∙ ap (λ n. counted_by n (refusals_of later ys)) t.count ∙ counted_twice old.refused (refusals_of w xs) (refusals_of later ys)
           ∙ ap (counted_by old.refused) (sym (refusals_both xs ys w));

@@ -15,7 +15,8 @@ use Rattle.sasi_layout.specs.Running.{Crashed, IsBusy, IsQuiet, after_pieces, re
 use Rattle.sasi_layout.specs.Serving.{Serves, StoreInMemory}
 use Rattle.sasi_layout.specs.Shape.{IsOfShape}
 use Rattle.sasi_store.specs.Worlds.{World, steps}
-use Rattle.sasi_store.specs.StoreView.{IsReady, StoreView}
+use Rattle.sasi_store.specs.StoreView.{IsReady}
+use Rattle.sasi_store.specs.declared.store.Store.{Store}
 use Rattle.sasi_run.specs.Crashing.{CrashLeavesPieces}
 use Rattle.sasi_run.proofs.Worlds.{after_both, replies_both}
 
@@ -36,7 +37,7 @@ pub serves_still : (a b : View) (store : StoreInMemory) (l : Layout) → b.files
 serves_still a b store l same fewer serves = serves_fewer a b fewer store l (subst (λ (f : Option Folder). IsSome f) (sym same) serves.told) serves
 
 -- and can make a change as before
-pub ready_still : (a b : View) (store : StoreView) → b.files ≡ a.files → ((x : Folder) → b.image x → a.image x) → IsReady a store → IsReady b store
+pub ready_still : (a b : View) (store : Store) → b.files ≡ a.files → ((x : Folder) → b.image x → a.image x) → IsReady a store → IsReady b store
 ready_still a b store same fewer ready = record {
   memory = record {
     consistent = ready.memory.consistent;
@@ -48,12 +49,14 @@ ready_still a b store same fewer ready = record {
     manifest_room = rw same ready.memory.manifest_room;
     log_room = rw same ready.memory.log_room;
     manifest_usable = ready.memory.manifest_usable;
-    stands = λ told. manifest_fewer a b fewer store.memory.manifest.number store.memory.manifest.at store.memory.manifest.listing
+    stands = λ told. manifest_fewer a b fewer store.parts.manifest.number store.parts.manifest.at store.parts.manifest.listing
         (ready.memory.stands (subst (λ (f : Option Folder). IsSome f) same told));
     log_usable = ready.memory.log_usable;
     kept = rw same ready.memory.kept;
   };
   usable = ready.usable;
+  parts = ready.parts;
+  none_out = ready.none_out;
 }
 
 -- each image has the shape of the layout that is served

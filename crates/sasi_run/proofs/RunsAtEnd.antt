@@ -131,7 +131,7 @@ ends_script {kinds} from mid to l l1 l2 a b c n none fresh on few ate empty end 
 
 module _ {kinds : List Class} (from to : Session) (l l2 : Option (List ℕ)) (a b c : View) (fresh : IsAtScriptStart from) (on : RanScript kinds from to l l2 a b)
     (silent : c.emitted ≡ b.emitted) (none_out : c.emits ≡ b.emits)
-    (moments : (w : World) → ServesWorld b to.store.memory to.store.trace w → Changes (λ x y. Between w.layout [] y) b c) where
+    (moments : (w : World) → ServesWorld b to.store w → Changes (λ x y. Between w.layout [] y) b c) where
   -- nothing was emitted since
   appends_on : (shown : List ℕ) → Appends a.emitted b.emitted shown → Appends a.emitted c.emitted shown
   appends_on shown p = subst (λ (o : Option (List ℕ)). Appends a.emitted o shown) (sym silent) p
@@ -140,7 +140,7 @@ module _ {kinds : List Class} (from to : Session) (l l2 : Option (List ℕ)) (a 
   of_script : (P : List Piece → Type 0) → P (all_pieces on.read) → P (all_pieces (script_of l on.read))
   of_script P p = subst (λ (bytes : List ℕ). P (all_pieces bytes)) (sym (script_whole l l2 on.read on.consumed on.at_end)) p
 
-  module _ (start : Layout) (serves : ServesWorld a from.store.memory from.store.trace (new_world start)) where
+  module _ (start : Layout) (serves : ServesWorld a from.store (new_world start)) where
     abbrev w : World
     w = new_world start
 
@@ -193,7 +193,7 @@ module _ {kinds : List Class} (from to : Session) (l l2 : Option (List ℕ)) (a 
 
   -- ---- the use of the store was ended
 
-  module _ (ends : (w : World) → ServesWorld b to.store.memory to.store.trace w → Ended c (closed w.layout)) where
+  module _ (ends : (w : World) → ServesWorld b to.store w → Ended c (closed w.layout)) where
     ended_by : (none : Bool) → nat_eq to.refused 0 ≡ none → RunsCrashSafe kinds (cond none Done (Refused to.refused)) from.store l l2 a c
     ended_by true is =
         let zero_is : to.refused ≡ 0 = grind arith in

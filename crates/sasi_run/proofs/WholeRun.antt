@@ -26,7 +26,7 @@ use Rattle.sasi_manifest.proofs.Consistency.{manifest_consistent}
 use Rattle.sasi_recover.proofs.OpenedStore.{shape_in_order}
 use Rattle.sasi_recover.specs.declared.fault.OpenFault.{OpenFault}
 use Rattle.sasi_recover.specs.declared.fault.OpenFault.TheVariants as open_fault
-use Rattle.sasi_store.specs.StoreView.{StoreView}
+use Rattle.sasi_store.specs.declared.store.Store.{Store}
 use Rattle.sasi_run.specs.Crashing.{CrashLeavesPieces, IsOfState, RunsCrashSafe, RunsWorld}
 use Rattle.sasi_run.specs.Headline.{AreReplies, EmitsByStatus, EmitsFirstReplies, EndsWith, Headline, RanToEnd, ReadsToEnd, Replies, Runs, RunsAsModel, RunsFrom, StartsFrom, but_stored, first_of, script_of, status_of_fault}
 use Rattle.sasi_run.specs.Recovering.{IsStateAfter, Recovers}
@@ -304,8 +304,8 @@ by_layout_behind status l left later b a c same on =
     record { answers = on.answers; runs = moved (first_of on.answers) status (state_of l) left later b.emitted a.emitted c.emitted same on.runs; replied = on.replied }
 
 -- it was opened, and the script run
-runs_opened : {kinds : List Class} (asked : Option Partitioner) (status : Status) (a b c : View) (m : Layout) (store : StoreView) (l l2 : Option (List ℕ)) → IsSound a
-    → StartsFromLayout asked a m → Changes (UnchangedOrShaped asked m) a b → ServesWorld b store.memory store.trace (new_world m) → IsSound c
+runs_opened : {kinds : List Class} (asked : Option Partitioner) (status : Status) (a b c : View) (m : Layout) (store : Store) (l l2 : Option (List ℕ)) → IsSound a
+    → StartsFromLayout asked a m → Changes (UnchangedOrShaped asked m) a b → ServesWorld b store (new_world m) → IsSound c
     → RunsWorld kinds status (new_world m) l l2 b c → RunsWhole asked status m l l2 a c
 unfolding by_layout_behind
 runs_opened asked status a b c m store l l2 sound starts change serves sound_c on = record {
@@ -346,10 +346,10 @@ whole_unopened asked fault script a b sound silent change = record {
 }
 
 -- the script was run
-pub whole_opened : {kinds : List Class} (asked : Option Partitioner) (status : Status) (script later : SourceView) (a b c : View) (store : StoreView) (s : State) → IsOfState store new_session s → IsSound a → IsSound c
+pub whole_opened : {kinds : List Class} (asked : Option Partitioner) (status : Status) (script later : SourceView) (a b c : View) (store : Store) (s : State) → IsOfState store new_session s → IsSound a → IsSound c
     → b.emitted ≡ a.emitted
     → ((folder : Folder) (l : Layout) → a.files ≡ Some folder → ShapeOf asked folder l → Changes (UnchangedOrShaped asked l) a b)
-    → ((folder : Folder) (l : Layout) → a.files ≡ Some folder → ShapeOf asked folder l → ServesWorld b store.memory store.trace (new_world l))
+    → ((folder : Folder) (l : Layout) → a.files ≡ Some folder → ShapeOf asked folder l → ServesWorld b store (new_world l))
     → RunsCrashSafe kinds status store script.left later.left b c → Whole asked status script later a c
 whole_opened asked status script later a b c store s of sound sound_c silent change opened on = record {
   on_every_host = (s, moved (but_stored grammar_parser) status s script.left later.left b.emitted a.emitted c.emitted silent (on.anywhere s of));

@@ -16,7 +16,8 @@ use Rattle.sasi_layout.specs.Layout.{Layout, state_of}
 use Rattle.sasi_layout.specs.Running.{Crashed, after_pieces, replies_of}
 use Rattle.sasi_layout.specs.Serving.{Ended, closed, known_in_memory}
 use Rattle.sasi_store.specs.Worlds.{HasNoCursor, ServesWorld, World, new_world, steps}
-use Rattle.sasi_store.specs.StoreView.{IsReady, StoreView}
+use Rattle.sasi_store.specs.StoreView.{IsReady, store_memory}
+use Rattle.sasi_store.specs.declared.store.Store.{Store}
 use Rattle.sasi_run.specs.declared.session.Session.{Session}
 use Rattle.sasi_run.specs.declared.session.Stop.{Stop}
 use Rattle.sasi_run.specs.declared.session.Stop.TheVariants.{Missing, Output, Spent}
@@ -37,8 +38,8 @@ CrashLeavesPieces a b w pieces = (out : List ℕ) → a.emitted ≡ Some out →
 -- ---- parts of a run, on every host
 
 -- the store has the definitions and the largest timestamp of the state, and no cursor is open in the session
-pub record IsOfState (store : StoreView) (session : SessionState) (s : State) : Type 0 where
-  pub known : IsStateOf (known_in_memory store.memory) s
+pub record IsOfState (store : Store) (session : SessionState) (s : State) : Type 0 where
+  pub known : IsStateOf (known_in_memory (store_memory store)) s
   pub cursors : HasNoCursor session
 
 -- From a session and a state that the store was of these pieces were run: their replies were emitted, but for what comes from the files or tells of them, and the store is of those after them.
@@ -71,7 +72,7 @@ LacksAtStop kinds stop = Unit {0}
 
 -- From a world that the store served these pieces were run: their replies were emitted, and the store serves the world after them.
 pub record RanPieces (kinds : List Class) (w : World) (pieces : List Piece) (old new : Session) (a b : View) : Type 0 where
-  pub serves : ServesWorld b new.store.memory new.store.trace (after_pieces steps w pieces)
+  pub serves : ServesWorld b new.store (after_pieces steps w pieces)
   pub shown : Appends a.emitted b.emitted (replies_of steps w pieces)
   pub count : new.refused ≡ counted_by old.refused (refusals_of w pieces)
   pub crashes : CrashLeavesPieces a b w pieces
@@ -90,12 +91,12 @@ pub record AnswersCrashSafe (kinds : List Class) (old new : Session) (a b : View
   pub reading : new.splitter ≡ old.splitter
   pub anywhere : (x : SessionState) (s : State) → IsOfState old.store x s → RanButStored x s (piece ∷ []) old new a b
   pub ready : IsReady b new.store
-  pub ran : (w : World) → ServesWorld a old.store.memory old.store.trace w → RanPieces kinds w (piece ∷ []) old new a b
+  pub ran : (w : World) → ServesWorld a old.store w → RanPieces kinds w (piece ∷ []) old new a b
 
 -- it stopped in these pieces
 pub record FailsCrashSafe (kinds : List Class) (stop : Stop) (old : Session) (a b : View) (next : List Piece) : Type 0 where
   pub anywhere : (x : SessionState) (s : State) → IsOfState old.store x s → StoppedButStored stop x s [] next a b
-  pub stopped : (w : World) → ServesWorld a old.store.memory old.store.trace w → StoppedPieces kinds stop w [] next a b
+  pub stopped : (w : World) → ServesWorld a old.store w → StoppedPieces kinds stop w [] next a b
   pub lacks : LacksAtStop kinds stop
 
 -- it was fed these bytes
@@ -103,20 +104,20 @@ pub record FeedsCrashSafe (kinds : List Class) (old new : Session) (a b : View) 
   pub feeds : Feeds old new bytes
   pub anywhere : (x : SessionState) (s : State) → IsOfState old.store x s → RanButStored x s feeds.done old new a b
   pub ready : IsReady b new.store
-  pub ran : (w : World) → ServesWorld a old.store.memory old.store.trace w → RanPieces kinds w feeds.done old new a b
+  pub ran : (w : World) → ServesWorld a old.store w → RanPieces kinds w feeds.done old new a b
 
 -- it stopped within them
 pub record StopsCrashSafe (kinds : List Class) (stop : Stop) (old : Session) (a b : View) (bytes : List ℕ) : Type 0 where
   pub stops : Stops old bytes
   pub anywhere : (x : SessionState) (s : State) → IsOfState old.store x s → StoppedButStored stop x s stops.done stops.next a b
-  pub stopped : (w : World) → ServesWorld a old.store.memory old.store.trace w → StoppedPieces kinds stop w stops.done stops.next a b
+  pub stopped : (w : World) → ServesWorld a old.store w → StoppedPieces kinds stop w stops.done stops.next a b
   pub lacks : LacksAtStop kinds stop
 
 -- it has run the last piece, if anything was left of one
 pub record FinishesCrashSafe (kinds : List Class) (old new : Session) (a b : View) : Type 0 where
   pub anywhere : (x : SessionState) (s : State) → IsOfState old.store x s → RanButStored x s (resume old.splitter []).last old new a b
   pub ready : IsReady b new.store
-  pub ran : (w : World) → ServesWorld a old.store.memory old.store.trace w → RanPieces kinds w (resume old.splitter []).last old new a b
+  pub ran : (w : World) → ServesWorld a old.store w → RanPieces kinds w (resume old.splitter []).last old new a b
 
 -- so many bytes were read and fed to the session
 pub record ReadsCrashSafe (kinds : List Class) (from to : Session) (left_old left_new : Option (List ℕ)) (a b : View) (count : ℕ) : Type 0 where
@@ -163,7 +164,7 @@ pub record RanScript (kinds : List Class) (from to : Session) (left_old left_new
   pub at_end : IsAtEnd left_new
   pub anywhere : (x : SessionState) (s : State) → IsOfState from.store x s → RanButStored x s (all_pieces read) from to a b
   pub ready : IsReady b to.store
-  pub ran : (w : World) → ServesWorld a from.store.memory from.store.trace w → RanPieces kinds w (all_pieces read) from to a b
+  pub ran : (w : World) → ServesWorld a from.store w → RanPieces kinds w (all_pieces read) from to a b
 
 -- From a world that the store served the run showed as many of its replies as its status says, by so many emits, and a crash meanwhile leaves no more than the pieces of the script do.
 pub record RunsWorld (kinds : List Class) (status : Status) (w : World) (left_old left_new : Option (List ℕ)) (a b : View) : Type 0 where
@@ -178,7 +179,7 @@ pub record RunsWorld (kinds : List Class) (status : Status) (w : World) (left_ol
   pub undamaged : (damage : Damage) → status ≢ Damaged damage
 
 -- the run of a store, with a new session, from each state that it was of, and from each layout that it served
-pub record RunsCrashSafe (kinds : List Class) (status : Status) (store : StoreView) (left_old left_new : Option (List ℕ)) (a b : View) : Type 0 where
+pub record RunsCrashSafe (kinds : List Class) (status : Status) (store : Store) (left_old left_new : Option (List ℕ)) (a b : View) : Type 0 where
   pub anywhere : (s : State) → IsOfState store new_session s → Runs grammar_parser (but_stored grammar_parser) status s left_old left_new a.emitted b.emitted
-  pub from : (l : Layout) → ServesWorld a store.memory store.trace (new_world l) → RunsWorld kinds status (new_world l) left_old left_new a b
+  pub from : (l : Layout) → ServesWorld a store (new_world l) → RunsWorld kinds status (new_world l) left_old left_new a b
   pub lacks : (class : Class) → status ≡ AnalyzerMissing class → has_class class kinds ≡ false

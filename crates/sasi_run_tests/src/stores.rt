@@ -2,7 +2,7 @@
 ghost use Rattle.std.specs.Prelude.{map};
 ghost use Rattle.sasi_host.specs.Memory.{host_view, memory_host};
 ghost use Rattle.sasi_layout.specs.Classes.{KnowsClasses};
-ghost use Rattle.sasi_store.specs.StoreView.{IsReady};
+ghost use Rattle.sasi_store.specs.StoreView.{IsReady, store_memory};
 
 use sasi_analyzers::Kit;
 use sasi_host::MemHost;
@@ -16,7 +16,7 @@ use std::process::Abort;
 /// table is recorded by four.
 fn opened(rt: &impl Abort, alloc: Global, host: &mut MemHost, kit: &mut Kit) -> Store
     ensures ready { IsReady (host_view (memory_host host.new)) result }
-    ensures classes { KnowsClasses (map (λ b. kind (b.vtable, b.value)) kit.new.objects.items) result.memory }
+    ensures classes { KnowsClasses (map (λ b. kind (b.vtable, b.value)) kit.new.objects.items) (store_memory result) }
 {
     host.stop_after(17);
     match Store::open(alloc, host, kit, None) {
@@ -34,7 +34,7 @@ fn check_steps(
     reply: &mut Reply,
 )
     requires ready { IsReady (host_view (memory_host host.old)) store.old }
-    requires classes { KnowsClasses (map (λ b. kind (b.vtable, b.value)) kit.old.objects.items) store.old.memory }
+    requires classes { KnowsClasses (map (λ b. kind (b.vtable, b.value)) kit.old.objects.items) (store_memory store.old) }
 {
     assert!(rt; store.steps() == 0 && store.is_usable());
     let create = b"CREATE TABLE t (k int PRIMARY KEY);";

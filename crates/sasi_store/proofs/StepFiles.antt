@@ -1,8 +1,8 @@
 -- A step that answers SHOW FILES.
-use Rattle.std.proofs.Common.{◌≡◌, ◌++◌, Bool, List, ℕ, [], Ok, inr, subst, sym, ap, ◌∙◌}
+use Rattle.std.proofs.Common.{◌≡◌, ◌++◌, List, ℕ, [], Ok, inr, subst, sym, ap, ◌∙◌}
 use Rattle.sasi_host.specs.View.{IsSound, View}
 use Rattle.sasi_layout.specs.Layout.{Layout, listing_of, state_of}
-use Rattle.sasi_layout.specs.Serving.{CanChange, StoreInMemory, known_in_memory}
+use Rattle.sasi_layout.specs.Serving.{CanChange, known_in_memory}
 use Rattle.sasi_machine.proofs.SessionTurns.{listed_turns}
 use Rattle.sasi_machine.specs.Prepares.{AsksFiles, IsShowFiles, IsStateOf, SaysOne, StepsTo}
 use Rattle.sasi_machine.specs.declared.outcome.Outcome.TheVariants.{Done}
@@ -18,7 +18,10 @@ use Rattle.sasi_types.specs.declared.class.Class.{Class}
 use Rattle.sasi_types.specs.declared.statement.Statement.{Statement}
 use Rattle.sasi_types.specs.declared.statement.Statement.TheVariants.{ShowFiles}
 use Rattle.sasi_store.specs.Steps.{StepPromises}
+use Rattle.sasi_store.specs.StoreView.{memory_of}
 use Rattle.sasi_store.specs.Worlds.{HasNoCursor, file_texts, told_in}
+use Rattle.sasi_store.specs.declared.parts.Parts.{Parts}
+use Rattle.sasi_store.specs.declared.session_state.SessionState.{SessionState as StoreSession}
 use Rattle.sasi_store.proofs.Stepping.{state_is, step_quiet, turn_taken}
 
 shows_files : (s : State) (piece : Piece) → SaysOne piece (AsksFiles s) → IsShowFiles (read piece)
@@ -29,23 +32,23 @@ shows_files s piece (statement, says, in_order, asked) = subst IsShowFiles (sym 
     by statement asked = absurd asked
 
 -- **SHOW FILES leaves the session and the store**, and its reply is that of each world's step.
-pub step_listed : {was : Bool} (kinds : List Class) (v : View) (sound : IsSound v) (old : StoreInMemory) (piece : Piece) (front reply : List ℕ) → CanChange v old → asks (known_in_memory old) piece ≡ ask.NoChange
-    → ((s : State) → IsStateOf (known_in_memory old) s → StepsTo s piece s front Done × (front ≡ []) × SaysOne piece (AsksFiles s))
+pub step_listed : {was : StoreSession} (kinds : List Class) (v : View) (sound : IsSound v) (old : Parts) (piece : Piece) (front reply : List ℕ) → CanChange v (memory_of old) → asks (known_in_memory (memory_of old)) piece ≡ ask.NoChange
+    → ((s : State) → IsStateOf (known_in_memory (memory_of old)) s → StepsTo s piece s front Done × (front ≡ []) × SaysOne piece (AsksFiles s))
     → ((l : Layout) → old.manifest.listing ≡ listing_of l → reply ≡ front ++ files_lines (file_texts l)) → StepPromises kinds piece v v old old was was reply (Ok Done)
 step_listed {was} kinds v sound old piece front reply ready is prepares told =
-    step_quiet {trace = was} kinds v sound old piece reply Done ready is
+    step_quiet {now = was} kinds v sound old piece reply Done ready is
     (λ x s none of.
     let prepared = prepares s of in
     let turned = listed_turns s piece prepared.2 in
     record {
-      state_is = subst (IsStateOf (known_in_memory old)) (sym prepared.0.state_is) of;
+      state_is = subst (IsStateOf (known_in_memory (memory_of old))) (sym prepared.0.state_is) of;
       cursors_are = subst (λ (t : Turn). HasNoCursor t.session) (sym (turned.turn_is x)) none;
       outcome_is = prepared.0.outcome_is ∙ ap (λ (t : Turn). outcome_of t.refused) (sym (turned.turn_is x));
       reply_is = λ other. absurd (other (inr (inr (shows_files s piece prepared.2)), turn_taken x s piece _ _ turned prepared.0.outcome_is));
     })
     (λ w serves.
     let s = state_of w.layout in
-    let prepared = prepares s (state_is v old w.layout serves.serves) in
+    let prepared = prepares s (state_is v (memory_of old) w.layout serves.serves) in
     let turned = listed_turns s piece prepared.2 in (
       serves.trace_is ∙ ap (λ (t : Turn). t.session.trace) (sym (turned.turn_is w.session)),
       ap (λ (t : Turn). t.reply ++ tail_bytes t.tail (told_in w.layout (read piece))) (turned.turn_is w.session)

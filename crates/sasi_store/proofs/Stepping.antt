@@ -1,5 +1,5 @@
 -- What the parts of a step make of its promises.
-use Rattle.std.proofs.Common.{◌≡◌, ◌≢◌, ◌+◌, ◌≤◌, ◌++◌, ◌∷◌, Bool, cond, ℕ, List, [], Option, None, Some, Result, Ok, Err, refl, sym, ap, subst, ◌∙◌, inl, arith}
+use Rattle.std.proofs.Common.{◌≡◌, ◌≢◌, ◌+◌, ◌≤◌, ◌++◌, ◌∷◌, Bool, cond, ℕ, List, [], Option, None, Some, Ok, Err, refl, sym, ap, subst, ◌∙◌, inl, arith}
 use Rattle.std.proofs.lemmas.List.{append-nil}
 use Rattle.std.specs.Option.{option_map_or}
 use Rattle.sasi_folder.specs.Damages.{FolderShows}
@@ -52,9 +52,12 @@ use Rattle.sasi_schema.specs.Numbers.{number_of_table}
 use Rattle.sasi_store.specs.MakesMoves.{MakesMoves}
 use Rattle.sasi_store.specs.Selects.{HasShortFiles, HasShortRows, HasShortTable, select_reads, selection_reads}
 use Rattle.sasi_store.specs.Steps.{StepPromises}
-use Rattle.sasi_store.specs.Worlds.{HasNoCursor, ServesWorld, World, piece_checks, rows_tail, selection_checks, steps, told_in}
+use Rattle.sasi_store.specs.StoreView.{memory_of}
+use Rattle.sasi_store.specs.Worlds.{HasNoCursor, PartsServe, World, piece_checks, rows_tail, selection_checks, steps, told_in}
 use Rattle.sasi_store.specs.declared.fault.StepFault.{StepFault}
 use Rattle.sasi_store.specs.declared.fault.StepFault.TheVariants as fault
+use Rattle.sasi_store.specs.declared.parts.Parts.{Parts}
+use Rattle.sasi_store.specs.declared.session_state.SessionState.{SessionState as StoreSession}
 use Rattle.sasi_store.proofs.ListedFrames.{same_stays}
 use Rattle.sasi_store.proofs.MoveCauses.{any_change, none_made}
 
@@ -122,9 +125,9 @@ turns_plainly x s after piece reply outcome f turned to = record {
 }
 
 -- the whole reply was known from the state
-answered_as : (store : StoreInMemory) (x after : SessionState) (s : State) (piece : Piece) (reply : List ℕ) (outcome : Outcome) → Turns x s piece after reply outcome → HasNoCursor after
-    → IsStateOf (known_in_memory store) (step s piece).state → AnsweredButRows store x s piece reply outcome
-answered_as store x after s piece reply outcome turned none of = record {
+answered_as : (p : Parts) (session : StoreSession) (x after : SessionState) (s : State) (piece : Piece) (reply : List ℕ) (outcome : Outcome) → Turns x s piece after reply outcome → HasNoCursor after
+    → IsStateOf (known_in_memory (memory_of p)) (step s piece).state → AnsweredButRows p session x s piece reply outcome
+answered_as p session x after s piece reply outcome turned none of = record {
   state_is = of;
   cursors_are = subst (λ (t : Turn). HasNoCursor t.session) (sym turned.turn_is) none;
   outcome_is = turned.outcome_is ∙ ap (λ (t : Turn). outcome_of t.refused) (sym turned.turn_is);
@@ -135,36 +138,36 @@ answered_as store x after s piece reply outcome turned none of = record {
 reply_turned : (w : World) (piece : Piece) (after : SessionState) (reply : List ℕ) (outcome : Outcome) → Turns w.session (state_of w.layout) piece after reply outcome → steps.reply w piece ≡ reply
 reply_turned w piece after reply outcome turned = ap (λ (t : Turn). t.reply ++ tail_bytes t.tail (told_in w.layout (read piece))) turned.turn_is ∙ append-nil reply
 
-module _ {T : Type 0} (kinds : List Class) (a b : View) (old new : StoreInMemory) {was : Bool} (piece : Piece) (reply : List ℕ) (asked : Asked) (is : asks (known_in_memory old) piece ≡ asked) (changing : asked ≡ ask.NoChange → ⊥) where
+module _ {T : Type 0} (kinds : List Class) (a b : View) (old new : Parts) {was : StoreSession} (piece : Piece) (reply : List ℕ) (asked : Asked) (is : asks (known_in_memory (memory_of old)) piece ≡ asked) (changing : asked ≡ ask.NoChange → ⊥) where
   -- its moves were made; `after` is the state after the piece
-  pub step_made : (x : T) (after : State → State) → MakesMoves {T = T} (λ l. moves_asked l asked) a b old new (Ok x)
-      → ((s : State) → IsStateOf (known_in_memory old) s → StepsTo s piece (after s) reply Done)
-      → ((s : State) → IsStateOf (known_in_memory old) s → IsStateOf (known_in_memory new) (after s))
-      → ((s : State) → IsStateOf (known_in_memory old) s → LeavesSession s piece)
-      → (KnowsClasses kinds old → KnowsClasses kinds new) → HasNeeded kinds (class_needed asked) → StepPromises kinds piece a b old new was was reply (Ok Done)
+  pub step_made : (x : T) (after : State → State) → MakesMoves {T = T} (λ l. moves_asked l asked) a b (memory_of old) (memory_of new) (Ok x)
+      → ((s : State) → IsStateOf (known_in_memory (memory_of old)) s → StepsTo s piece (after s) reply Done)
+      → ((s : State) → IsStateOf (known_in_memory (memory_of old)) s → IsStateOf (known_in_memory (memory_of new)) (after s))
+      → ((s : State) → IsStateOf (known_in_memory (memory_of old)) s → LeavesSession s piece)
+      → (KnowsClasses kinds (memory_of old) → KnowsClasses kinds (memory_of new)) → HasNeeded kinds (class_needed asked) → StepPromises kinds piece a b old new was was reply (Ok Done)
   step_made x after makes steps_to known leaves classes has = record {
     answers = λ w serves.
-        let of = state_is a old w.layout serves.serves in
+        let of = state_is a (memory_of old) w.layout serves.serves in
         let to = steps_to (state_of w.layout) of in
         let turned = turns_plainly w.session (state_of w.layout) (after (state_of w.layout)) piece reply Done (λ x. x) (leaves (state_of w.layout) of) to in
         record {
           serves = record {
-            serves = subst (λ (ms : List Move). Serves b new (after_moves ms w.layout)) (sym (moves_are a old piece asked is w.layout serves.serves)) (makes.serves w.layout serves.serves);
+            serves = subst (λ (ms : List Move). Serves b (memory_of new) (after_moves ms w.layout)) (sym (moves_are a (memory_of old) piece asked is w.layout serves.serves)) (makes.serves w.layout serves.serves);
             trace_is = serves.trace_is ∙ ap (λ (t : Turn). t.session.trace) (sym turned.turn_is);
             cursors_are = subst (λ (t : Turn). HasNoCursor t.session) (sym turned.turn_is) serves.cursors_are;
           };
           reply_is = sym (plain_reply (state_of w.layout) piece (λ x. x) (leaves (state_of w.layout) of) w.session (told_in w.layout (read piece)) ∙ to.reply_is);
           outcome_is = turned.outcome_is ∙ ap (λ (t : Turn). outcome_of t.refused) (sym turned.turn_is);
-          unspent = ap (spent w.layout) (moves_are a old piece asked is w.layout serves.serves) ∙ makes.unspent w.layout serves.serves;
+          unspent = ap (spent w.layout) (moves_are a (memory_of old) piece asked is w.layout serves.serves) ∙ makes.unspent w.layout serves.serves;
         };
     everywhere = λ x s none of.
         let to = steps_to s of in
-        answered_as new x x s piece reply Done (turns_plainly x s (after s) piece reply Done (λ y. y) (leaves s of) to) none (subst (IsStateOf (known_in_memory new)) (sym to.state_is) (known s of));
+        answered_as new was x x s piece reply Done (turns_plainly x s (after s) piece reply Done (λ y. y) (leaves s of) to) none (subst (IsStateOf (known_in_memory (memory_of new))) (sym to.state_is) (known s of));
     ready = makes.ready;
-    any_moment = λ w serves. subst (λ (ms : List Move). Changes (λ x y. Between w.layout ms y) a b) (sym (moves_are a old piece asked is w.layout serves.serves)) (makes.any_moment w.layout serves.serves);
+    any_moment = λ w serves. subst (λ (ms : List Move). Changes (λ x y. Between w.layout ms y) a b) (sym (moves_are a (memory_of old) piece asked is w.layout serves.serves)) (makes.any_moment w.layout serves.serves);
     spent_is = tt;
     classes = classes;
-    needed = needed_asked kinds (asks (known_in_memory old) piece) asked is has;
+    needed = needed_asked kinds (asks (known_in_memory (memory_of old)) piece) asked is has;
     needed_first = tt;
     missing = tt;
     damaged = λ folder files. tt;
@@ -179,16 +182,16 @@ module _ {T : Type 0} (kinds : List Class) (a b : View) (old new : StoreInMemory
   }
 
   -- they weren't, or not all of them
-  pub step_failed : (e : StepFault) → MakesMoves {T = T} (λ l. moves_asked l asked) a b old new (Err e) → HasNeeded kinds (class_needed asked) → StepPromises kinds piece a b old new was was reply (Err e)
+  pub step_failed : (e : StepFault) → MakesMoves {T = T} (λ l. moves_asked l asked) a b (memory_of old) (memory_of new) (Err e) → HasNeeded kinds (class_needed asked) → StepPromises kinds piece a b old new was was reply (Err e)
   step_failed e makes has = record {
     answers = tt;
     everywhere = tt;
     ready = tt;
-    any_moment = λ w serves. subst (λ (ms : List Move). Changes (λ x y. Between w.layout ms y) a b) (sym (moves_are a old piece asked is w.layout serves.serves)) (makes.any_moment w.layout serves.serves);
-    spent_is = by_spent _ _ (λ kind on w serves. ap (spent w.layout) (moves_are a old piece asked is w.layout serves.serves) ∙ on w.layout serves.serves) e makes.spent_is;
+    any_moment = λ w serves. subst (λ (ms : List Move). Changes (λ x y. Between w.layout ms y) a b) (sym (moves_are a (memory_of old) piece asked is w.layout serves.serves)) (makes.any_moment w.layout serves.serves);
+    spent_is = by_spent _ _ (λ kind on w serves. ap (spent w.layout) (moves_are a (memory_of old) piece asked is w.layout serves.serves) ∙ on w.layout serves.serves) e makes.spent_is;
     classes = tt;
     needed = tt;
-    needed_first = where_spent _ e (needed_asked kinds (asks (known_in_memory old) piece) asked is has);
+    needed_first = where_spent _ e (needed_asked kinds (asks (known_in_memory (memory_of old)) piece) asked is has);
     missing = never_missing _ e makes.present;
     damaged = λ folder files. by_damage (λ _. ⊥) (FolderShows folder) (λ damage none. absurd none) e makes.undamaged;
     undamaged = λ w serves. makes.undamaged;
@@ -207,8 +210,8 @@ no_kind : (kind : NumberKind) → None ≡ Some kind → ⊥
 no_kind kind e = cc
 
 -- nothing was done: memory ran out, or the analyzer of a new index is missing
-step_not_made : {was : Bool} (kinds : List Class) (v : View) (sound : IsSound v) (old : StoreInMemory) (piece : Piece) (reply : List ℕ) (e : StepFault) → e ≢ fault.Failed
-    → OnSpent (λ _. ⊥) e → OnStepDamage (λ _. ⊥) e → OnMissing (LacksNeeded kinds (asks (known_in_memory old) piece)) e → StepPromises kinds piece v v old old was was reply (Err e)
+step_not_made : {was : StoreSession} (kinds : List Class) (v : View) (sound : IsSound v) (old : Parts) (piece : Piece) (reply : List ℕ) (e : StepFault) → e ≢ fault.Failed
+    → OnSpent (λ _. ⊥) e → OnStepDamage (λ _. ⊥) e → OnMissing (LacksNeeded kinds (asks (known_in_memory (memory_of old)) piece)) e → StepPromises kinds piece v v old old was was reply (Err e)
 step_not_made kinds v sound old piece reply e other unspent undamaged missing = record {
   answers = tt;
   everywhere = tt;
@@ -233,19 +236,19 @@ step_not_made kinds v sound old piece reply e other unspent undamaged missing = 
     one_then : {f : StepFault} → e ≡ f → f ≡ fault.Failed → e ≡ fault.Failed
     one_then one same = cc
 
-pub step_full : {was : Bool} (kinds : List Class) (v : View) (sound : IsSound v) (old : StoreInMemory) (piece : Piece) (reply : List ℕ) → StepPromises kinds piece v v old old was was reply (Err fault.OutOfMemory)
+pub step_full : {was : StoreSession} (kinds : List Class) (v : View) (sound : IsSound v) (old : Parts) (piece : Piece) (reply : List ℕ) → StepPromises kinds piece v v old old was was reply (Err fault.OutOfMemory)
 step_full kinds v sound old piece reply = step_not_made kinds v sound old piece reply fault.OutOfMemory both tt tt tt
   where
     both : fault.OutOfMemory ≡ fault.Failed → ⊥
     both e = cc
 
 -- a piece isn't prepared for want of memory alone
-pub step_unprepared : {was : Bool} (kinds : List Class) (v : View) (sound : IsSound v) (old : StoreInMemory) (piece : Piece) (reply : List ℕ) (f : KitFault) → KnowsClasses kinds old → kits.OnMissing (kits.TablesLack kinds old.definitions) f
+pub step_unprepared : {was : StoreSession} (kinds : List Class) (v : View) (sound : IsSound v) (old : Parts) (piece : Piece) (reply : List ℕ) (f : KitFault) → KnowsClasses kinds (memory_of old) → kits.OnMissing (kits.TablesLack kinds old.schema.definitions) f
     → StepPromises kinds piece v v old old was was reply (Err (fault_of_kit f))
 step_unprepared kinds v sound old piece reply kit_fault.OutOfMemory known lacks = step_full kinds v sound old piece reply
-step_unprepared kinds v sound old piece reply (kit_fault.Missing class) known lacks = absurd (no_table_lacks kinds old.definitions known class lacks)
+step_unprepared kinds v sound old piece reply (kit_fault.Missing class) known lacks = absurd (no_table_lacks kinds old.schema.definitions known class lacks)
 
-pub step_missing : {was : Bool} (kinds : List Class) (v : View) (sound : IsSound v) (old : StoreInMemory) (piece : Piece) (reply : List ℕ) (asked : Asked) (class : Class) → asks (known_in_memory old) piece ≡ asked → LacksNeeded kinds asked class
+pub step_missing : {was : StoreSession} (kinds : List Class) (v : View) (sound : IsSound v) (old : Parts) (piece : Piece) (reply : List ℕ) (asked : Asked) (class : Class) → asks (known_in_memory (memory_of old)) piece ≡ asked → LacksNeeded kinds asked class
     → StepPromises kinds piece v v old old was was reply (Err (fault.AnalyzerMissing class))
 step_missing kinds v sound old piece reply asked class is lacks =
     step_not_made kinds v sound old piece reply (fault.AnalyzerMissing class) both tt tt (subst (λ (a : Asked). LacksNeeded kinds a class) (sym is) lacks)
@@ -254,30 +257,30 @@ step_missing kinds v sound old piece reply asked class is lacks =
     both e = cc
 
 -- it is answered without a move
-pub step_quiet : {was trace : Bool} (kinds : List Class) (v : View) (sound : IsSound v) (old : StoreInMemory) (piece : Piece) (reply : List ℕ) (outcome : Outcome) → CanChange v old → asks (known_in_memory old) piece ≡ ask.NoChange
-    → ((x : SessionState) (s : State) → HasNoCursor x → IsStateOf (known_in_memory old) s → AnsweredButRows old x s piece reply outcome)
-    → ((w : World) → ServesWorld v old was w → (trace ≡ (steps.after w piece).session.trace) × (steps.reply w piece ≡ reply))
-    → StepPromises kinds piece v v old old was trace reply (Ok outcome)
+pub step_quiet : {was now : StoreSession} (kinds : List Class) (v : View) (sound : IsSound v) (old : Parts) (piece : Piece) (reply : List ℕ) (outcome : Outcome) → CanChange v (memory_of old) → asks (known_in_memory (memory_of old)) piece ≡ ask.NoChange
+    → ((x : SessionState) (s : State) → HasNoCursor x → IsStateOf (known_in_memory (memory_of old)) s → AnsweredButRows old now x s piece reply outcome)
+    → ((w : World) → PartsServe v old was w → (now.trace ≡ (steps.after w piece).session.trace) × (steps.reply w piece ≡ reply))
+    → StepPromises kinds piece v v old old was now reply (Ok outcome)
 step_quiet kinds v sound old piece reply outcome ready is everywhere turns = record {
   answers = λ w serves.
       let turned = turns w serves in
-      let here = everywhere w.session (state_of w.layout) serves.cursors_are (state_is v old w.layout serves.serves) in
+      let here = everywhere w.session (state_of w.layout) serves.cursors_are (state_is v (memory_of old) w.layout serves.serves) in
       record {
         serves = record {
-          serves = subst (λ (ms : List Move). Serves v old (after_moves ms w.layout)) (sym (moves_are v old piece ask.NoChange is w.layout serves.serves)) serves.serves;
+          serves = subst (λ (ms : List Move). Serves v (memory_of old) (after_moves ms w.layout)) (sym (moves_are v (memory_of old) piece ask.NoChange is w.layout serves.serves)) serves.serves;
           trace_is = turned.0;
           cursors_are = here.cursors_are;
         };
         reply_is = sym turned.1;
         outcome_is = here.outcome_is;
-        unspent = ap (spent w.layout) (moves_are v old piece ask.NoChange is w.layout serves.serves);
+        unspent = ap (spent w.layout) (moves_are v (memory_of old) piece ask.NoChange is w.layout serves.serves);
       };
   everywhere = everywhere;
   ready = ready;
   any_moment = λ w serves. moves_none w.layout v (steps.moves w piece) sound (λ x now. (_, serves.serves.shape x now));
   spent_is = tt;
   classes = λ known. known;
-  needed = needed_asked kinds (asks (known_in_memory old) piece) ask.NoChange is tt;
+  needed = needed_asked kinds (asks (known_in_memory (memory_of old)) piece) ask.NoChange is tt;
   needed_first = tt;
   missing = tt;
   damaged = λ folder files. tt;
@@ -292,35 +295,35 @@ step_quiet kinds v sound old piece reply outcome ready is everywhere turns = rec
 }
 
 -- and its whole reply was known; `f` is what it makes of each session
-step_still : {was trace : Bool} (kinds : List Class) (v : View) (sound : IsSound v) (old : StoreInMemory) (piece : Piece) (reply : List ℕ) (outcome : Outcome) (f : SessionState → SessionState) → CanChange v old → asks (known_in_memory old) piece ≡ ask.NoChange
-    → ((s : State) → IsStateOf (known_in_memory old) s → (step s piece).state ≡ s) → ((x : SessionState) → HasNoCursor x → HasNoCursor (f x)) → ((x : SessionState) → was ≡ x.trace → trace ≡ (f x).trace)
-    → ((x : SessionState) (s : State) → HasNoCursor x → IsStateOf (known_in_memory old) s → Turns x s piece (f x) reply outcome)
-    → StepPromises kinds piece v v old old was trace reply (Ok outcome)
-step_still kinds v sound old piece reply outcome f ready is stays_in leaves_none on turns =
-    step_quiet kinds v sound old piece reply outcome ready is
-    (λ x s none of. answered_as old x (f x) s piece reply outcome (turns x s none of) (leaves_none x none) (subst (IsStateOf (known_in_memory old)) (sym (stays_in s of)) of))
+step_still : {was now : StoreSession} (kinds : List Class) (v : View) (sound : IsSound v) (old : Parts) (piece : Piece) (reply : List ℕ) (outcome : Outcome) (f : SessionState → SessionState) → CanChange v (memory_of old) → asks (known_in_memory (memory_of old)) piece ≡ ask.NoChange
+    → ((s : State) → IsStateOf (known_in_memory (memory_of old)) s → (step s piece).state ≡ s) → ((x : SessionState) → HasNoCursor x → HasNoCursor (f x)) → ((x : SessionState) → was.trace ≡ x.trace → now.trace ≡ (f x).trace)
+    → ((x : SessionState) (s : State) → HasNoCursor x → IsStateOf (known_in_memory (memory_of old)) s → Turns x s piece (f x) reply outcome)
+    → StepPromises kinds piece v v old old was now reply (Ok outcome)
+step_still {was} {now} kinds v sound old piece reply outcome f ready is stays_in leaves_none on turns =
+    step_quiet {was = was} {now = now} kinds v sound old piece reply outcome ready is
+    (λ x s none of. answered_as old now x (f x) s piece reply outcome (turns x s none of) (leaves_none x none) (subst (IsStateOf (known_in_memory (memory_of old))) (sym (stays_in s of)) of))
     (λ w serves.
-    let turned = turns w.session (state_of w.layout) serves.cursors_are (state_is v old w.layout serves.serves) in
+    let turned = turns w.session (state_of w.layout) serves.cursors_are (state_is v (memory_of old) w.layout serves.serves) in
     (on w.session serves.trace_is ∙ ap (λ (t : Turn). t.session.trace) (sym turned.turn_is), reply_turned w piece (f w.session) reply outcome turned))
 
 -- a piece that is refused, or has no reply, leaves the session,
-pub step_answered : {was : Bool} (kinds : List Class) (v : View) (sound : IsSound v) (old : StoreInMemory) (piece : Piece) (reply : List ℕ) (outcome : Outcome) → CanChange v old → asks (known_in_memory old) piece ≡ ask.NoChange
-    → ((s : State) → IsStateOf (known_in_memory old) s → StepsTo s piece s reply outcome × IsRefusedOrEmpty s piece) → StepPromises kinds piece v v old old was was reply (Ok outcome)
+pub step_answered : {was : StoreSession} (kinds : List Class) (v : View) (sound : IsSound v) (old : Parts) (piece : Piece) (reply : List ℕ) (outcome : Outcome) → CanChange v (memory_of old) → asks (known_in_memory (memory_of old)) piece ≡ ask.NoChange
+    → ((s : State) → IsStateOf (known_in_memory (memory_of old)) s → StepsTo s piece s reply outcome × IsRefusedOrEmpty s piece) → StepPromises kinds piece v v old old was was reply (Ok outcome)
 step_answered kinds v sound old piece reply outcome ready is prepares =
     step_still kinds v sound old piece reply outcome (λ x. x) ready is (λ s of. (prepares s of).0.state_is) (λ x none. none) (λ x on. on)
     (λ x s none of. let prepared = prepares s of in turns_plainly x s s piece reply outcome (λ y. y) (refused_leaves s piece prepared.1) prepared.0)
 
 -- TRACE turns it on or off,
-pub step_traced : {was : Bool} (kinds : List Class) (v : View) (sound : IsSound v) (old : StoreInMemory) (piece : Piece) (reply : List ℕ) (on : Bool) → CanChange v old → asks (known_in_memory old) piece ≡ ask.NoChange
-    → ((s : State) → IsStateOf (known_in_memory old) s → StepsTo s piece s reply Done × SaysOne piece (λ statement. TurnsTrace s statement on)) → StepPromises kinds piece v v old old was on reply (Ok Done)
-step_traced kinds v sound old piece reply on ready is prepares =
-    step_still kinds v sound old piece reply Done (λ x. record x { trace = on }) ready is (λ s of. (prepares s of).0.state_is) (λ x none. none) (λ x before. refl)
+pub step_traced : {was now : StoreSession} (kinds : List Class) (v : View) (sound : IsSound v) (old : Parts) (piece : Piece) (reply : List ℕ) (on : Bool) → now.trace ≡ on → CanChange v (memory_of old) → asks (known_in_memory (memory_of old)) piece ≡ ask.NoChange
+    → ((s : State) → IsStateOf (known_in_memory (memory_of old)) s → StepsTo s piece s reply Done × SaysOne piece (λ statement. TurnsTrace s statement on)) → StepPromises kinds piece v v old old was now reply (Ok Done)
+step_traced kinds v sound old piece reply on turned ready is prepares =
+    step_still kinds v sound old piece reply Done (λ x. record x { trace = on }) ready is (λ s of. (prepares s of).0.state_is) (λ x none. none) (λ x before. turned)
     (λ x s none of. let prepared = prepares s of in turns_plainly x s s piece reply Done (λ y. record y { trace = on }) (traced_turns s piece on prepared.1) prepared.0)
 
 -- and one that a rule of cursors refuses leaves it.
-pub step_ruled : {was : Bool} (kinds : List Class) (v : View) (sound : IsSound v) (old : StoreInMemory) (piece : Piece) (reply : List ℕ) (outcome : Outcome) (r : Refusal) → CanChange v old → asks (known_in_memory old) piece ≡ ask.NoChange
-    → reply ≡ refusal_line r → outcome ≡ outcome_of (Some r) → ((s : State) → IsStateOf (known_in_memory old) s → (step s piece).state ≡ s)
-    → ((x : SessionState) (s : State) → HasNoCursor x → IsStateOf (known_in_memory old) s → turn_by grammar_parser x s piece ≡ refused_turn x r)
+pub step_ruled : {was : StoreSession} (kinds : List Class) (v : View) (sound : IsSound v) (old : Parts) (piece : Piece) (reply : List ℕ) (outcome : Outcome) (r : Refusal) → CanChange v (memory_of old) → asks (known_in_memory (memory_of old)) piece ≡ ask.NoChange
+    → reply ≡ refusal_line r → outcome ≡ outcome_of (Some r) → ((s : State) → IsStateOf (known_in_memory (memory_of old)) s → (step s piece).state ≡ s)
+    → ((x : SessionState) (s : State) → HasNoCursor x → IsStateOf (known_in_memory (memory_of old)) s → turn_by grammar_parser x s piece ≡ refused_turn x r)
     → StepPromises kinds piece v v old old was was reply (Ok outcome)
 step_ruled kinds v sound old piece reply outcome r ready is reply_is outcome_is stays_in turned =
     step_still kinds v sound old piece reply outcome (λ x. x) ready is stays_in (λ x none. none) (λ x on. on)
@@ -353,10 +356,10 @@ select_short seen l s piece rows are (statement, says, in_order, selects) short 
         (subst (HasShortTable seen l select) (ap (number_of_table select.table) (sym are) ∙ ap (λ (q : Select). number_of_table q.table (definitions s.tables)) (sym selects.select_is) ∙ selects.has.named) short)
     by statement selects short = absurd selects
 
-pub select_within : {was : Bool} (a b : View) (store : StoreInMemory) (s : State) (piece : Piece) (rows : Selection) → definitions s.tables ≡ store.definitions → SaysOne piece (λ statement. SelectsRows s statement rows)
-    → ((l : Layout) → Serves a store l → HasShortFiles a.files l rows → b.reads ≤ a.reads + selection_reads a.files l rows)
-    → (w : World) → ServesWorld a store was w → HasShortRows a.files w.layout (read piece) → b.reads ≤ a.reads + select_reads a.files w.layout (read piece)
-select_within a b store s piece rows are says costs w serves short =
+pub select_within : {was : StoreSession} (a b : View) (p : Parts) (s : State) (piece : Piece) (rows : Selection) → definitions s.tables ≡ p.schema.definitions → SaysOne piece (λ statement. SelectsRows s statement rows)
+    → ((l : Layout) → Serves a (memory_of p) l → HasShortFiles a.files l rows → b.reads ≤ a.reads + selection_reads a.files l rows)
+    → (w : World) → PartsServe a p was w → HasShortRows a.files w.layout (read piece) → b.reads ≤ a.reads + select_reads a.files w.layout (read piece)
+select_within a b p s piece rows are says costs w serves short =
     subst (λ (n : ℕ). b.reads ≤ a.reads + n) (sym (select_costs a.files w.layout s piece rows (are ∙ serves.serves.definitions) says)) (costs w.layout serves.serves (select_short a.files w.layout s piece rows (are ∙ serves.serves.definitions) says short))
 
 -- and how many candidates it checks
@@ -431,41 +434,41 @@ module _ (a b : View) (change : Changes Same a b) where
     kept = λ folder files. ready.kept folder (files_before folder files);
   }
 
-module _ {was : Bool} (kinds : List Class) (a b : View) (sound : IsSound a) (old : StoreInMemory) (piece : Piece) (change : Changes Same a b) (is : asks (known_in_memory old) piece ≡ ask.NoChange) (query : IsQuery (read piece)) where
-  moments : (w : World) → ServesWorld a old was w → Changes (λ x y. Between w.layout (steps.moves w piece) y) a b
+module _ {was : StoreSession} (kinds : List Class) (a b : View) (sound : IsSound a) (old : Parts) (piece : Piece) (change : Changes Same a b) (is : asks (known_in_memory (memory_of old)) piece ≡ ask.NoChange) (query : IsQuery (read piece)) where
+  moments : (w : World) → PartsServe a old was w → Changes (λ x y. Between w.layout (steps.moves w piece) y) a b
   moments w serves = at_each_moment a b Same (λ x. HasShape x (bare w.layout) (serves.serves.older ++ serves.serves.current ∷ [])) (λ y. Between w.layout (steps.moves w piece) y) sound change serves.serves.shape
       (λ x y has same. none_done w.layout (steps.moves w piece) y (_, subst (λ (z : Folder). HasShape z (bare w.layout) (serves.serves.older ++ serves.serves.current ∷ [])) (sym same) has))
 
-  pub select_answered : {T : Type 0} (x : T) (reply : List ℕ) → CanChange a old → ((w : World) → ServesWorld a old was w → (was ≡ (steps.after w piece).session.trace) × (steps.reply w piece ≡ reply))
-      → ((s : State) → IsStateOf (known_in_memory old) s → ((step s piece).state ≡ s) × (Done ≡ outcome_of (step s piece).refused) × TurnsSession s piece (λ x. x) (λ x. cond x.trace CheckedTail NoTail))
-      → ((w : World) → ServesWorld a old was w → HasShortRows a.files w.layout (read piece) → b.reads ≤ a.reads + select_reads a.files w.layout (read piece))
-      → StepCauses {T = T} a b (Ok x) → StepPromises kinds piece a b old old was was reply (Ok Done)
-  select_answered x reply ready replied steps_to costs causes = record {
+  pub select_answered : {T : Type 0} {now : StoreSession} (x : T) (reply : List ℕ) → now.trace ≡ was.trace → CanChange a (memory_of old) → ((w : World) → PartsServe a old was w → (was.trace ≡ (steps.after w piece).session.trace) × (steps.reply w piece ≡ reply))
+      → ((s : State) → IsStateOf (known_in_memory (memory_of old)) s → ((step s piece).state ≡ s) × (Done ≡ outcome_of (step s piece).refused) × TurnsSession s piece (λ x. x) (λ x. cond x.trace CheckedTail NoTail))
+      → ((w : World) → PartsServe a old was w → HasShortRows a.files w.layout (read piece) → b.reads ≤ a.reads + select_reads a.files w.layout (read piece))
+      → StepCauses {T = T} a b (Ok x) → StepPromises kinds piece a b old old was now reply (Ok Done)
+  select_answered x reply left ready replied steps_to costs causes = record {
     answers = λ w serves.
-        let to = steps_to (state_of w.layout) (state_is a old w.layout serves.serves) in
+        let to = steps_to (state_of w.layout) (state_is a (memory_of old) w.layout serves.serves) in
         record {
           serves = record {
-            serves = subst (λ (ms : List Move). Serves b old (after_moves ms w.layout)) (sym (moves_are a old piece ask.NoChange is w.layout serves.serves)) (serves_same a b change old w.layout serves.serves);
-            trace_is = (replied w serves).0;
+            serves = subst (λ (ms : List Move). Serves b (memory_of old) (after_moves ms w.layout)) (sym (moves_are a (memory_of old) piece ask.NoChange is w.layout serves.serves)) (serves_same a b change (memory_of old) w.layout serves.serves);
+            trace_is = left ∙ (replied w serves).0;
             cursors_are = subst (λ (t : Turn). HasNoCursor t.session) (sym (to.2.turn_is w.session)) serves.cursors_are;
           };
           reply_is = sym (replied w serves).1;
           outcome_is = to.1 ∙ ap (λ (t : Turn). outcome_of t.refused) (sym (to.2.turn_is w.session));
-          unspent = ap (spent w.layout) (moves_are a old piece ask.NoChange is w.layout serves.serves);
+          unspent = ap (spent w.layout) (moves_are a (memory_of old) piece ask.NoChange is w.layout serves.serves);
         };
     everywhere = λ x s none of.
         let to = steps_to s of in
         record {
-          state_is = subst (IsStateOf (known_in_memory old)) (sym to.0) of;
+          state_is = subst (IsStateOf (known_in_memory (memory_of old))) (sym to.0) of;
           cursors_are = subst (λ (t : Turn). HasNoCursor t.session) (sym (to.2.turn_is x)) none;
           outcome_is = to.1 ∙ ap (λ (t : Turn). outcome_of t.refused) (sym (to.2.turn_is x));
           reply_is = λ other. absurd (other (inl query, turn_taken x s piece _ _ to.2 to.1));
         };
-    ready = ready_same a b change old ready;
+    ready = ready_same a b change (memory_of old) ready;
     any_moment = moments;
     spent_is = tt;
     classes = λ known. known;
-    needed = needed_asked kinds (asks (known_in_memory old) piece) ask.NoChange is tt;
+    needed = needed_asked kinds (asks (known_in_memory (memory_of old)) piece) ask.NoChange is tt;
     needed_first = tt;
     missing = tt;
     damaged = λ folder files. tt;
@@ -479,9 +482,9 @@ module _ {was : Bool} (kinds : List Class) (a b : View) (sound : IsSound a) (old
     causes = record { disk = causes.disk; out = causes.out; ok = causes.ok; failed = tt; others = tt };
   }
 
-  pub select_failed : {T : Type 0} (e : StepFault) (reply : List ℕ) → ((folder : Folder) → b.files ≡ Some folder → OnStepDamage (FolderShows folder) e) → ((l : Layout) → Serves a old l → OnStepDamage (λ _. ⊥) e) → OnSpent (λ _. ⊥) e → OnMissing (λ _. ⊥) e
-      → ((w : World) → ServesWorld a old was w → HasShortRows a.files w.layout (read piece) → b.reads ≤ a.reads + select_reads a.files w.layout (read piece))
-      → StepCauses {T = T} a b (Err e) → StepPromises kinds piece a b old old was was reply (Err e)
+  pub select_failed : {T : Type 0} {now : StoreSession} (e : StepFault) (reply : List ℕ) → ((folder : Folder) → b.files ≡ Some folder → OnStepDamage (FolderShows folder) e) → ((l : Layout) → Serves a (memory_of old) l → OnStepDamage (λ _. ⊥) e) → OnSpent (λ _. ⊥) e → OnMissing (λ _. ⊥) e
+      → ((w : World) → PartsServe a old was w → HasShortRows a.files w.layout (read piece) → b.reads ≤ a.reads + select_reads a.files w.layout (read piece))
+      → StepCauses {T = T} a b (Err e) → StepPromises kinds piece a b old old was now reply (Err e)
   select_failed e reply damaged undamaged unspent present costs causes = record {
     answers = tt;
     everywhere = tt;
@@ -502,8 +505,3 @@ module _ {was : Bool} (kinds : List Class) (a b : View) (sound : IsSound a) (old
     listed_stay = tt;
     causes = record { disk = causes.disk; out = causes.out; ok = tt; failed = causes.failed; others = causes.others };
   }
-
--- it leaves TRACE as it was
-pub trace_left : {kinds : List Class} {piece : Piece} {a b : View} {old new : StoreInMemory} {was trace later : Bool} {reply : List ℕ} {result : Result Outcome StepFault} → later ≡ trace
-    → StepPromises kinds piece a b old new was trace reply result → StepPromises kinds piece a b old new was later reply result
-trace_left {kinds} {piece} {a} {b} {old} {new} {was} {trace} {later} {reply} {result} same promises = subst (λ (on : Bool). StepPromises kinds piece a b old new was on reply result) (sym same) promises

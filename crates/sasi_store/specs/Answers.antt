@@ -1,8 +1,8 @@
 -- What a step answers, for each world that the store serves.
-use Rattle.std.specs.Prelude.{◌≡◌, ◌⊎◌, ⊤, Bool, ℕ, List, None, IsSome}
+use Rattle.std.specs.Prelude.{◌≡◌, ◌⊎◌, ⊤, ℕ, List, None, IsSome}
 use Rattle.sasi_host.specs.View.{View}
 use Rattle.sasi_layout.specs.Layout.{state_of}
-use Rattle.sasi_layout.specs.Serving.{StoreInMemory, known_in_memory}
+use Rattle.sasi_layout.specs.Serving.{known_in_memory}
 use Rattle.sasi_layout.specs.Spent.{spent}
 use Rattle.sasi_machine.specs.Outcome.{outcome_of}
 use Rattle.sasi_machine.specs.Prepares.{IsQuery, IsShowFiles, IsStateOf}
@@ -14,11 +14,14 @@ use Rattle.sasi_model.specs.Sessions.{SessionState, refused_by, session_by, turn
 use Rattle.sasi_model.specs.State.{State}
 use Rattle.sasi_model.specs.Step.{step}
 use Rattle.sasi_types.specs.declared.statement.Statement.TheVariants.{Fetch, ShowFiles, Trace}
-use Rattle.sasi_store.specs.Worlds.{HasNoCursor, ServesWorld, World, steps}
+use Rattle.sasi_store.specs.StoreView.{memory_of}
+use Rattle.sasi_store.specs.Worlds.{HasNoCursor, PartsServe, World, steps}
+use Rattle.sasi_store.specs.declared.parts.Parts.{Parts}
+use Rattle.sasi_store.specs.declared.session_state.SessionState.{SessionState as StoreSession}
 
--- The store serves the world after the piece, the reply is that of the world's step, the outcome that of the model's turn, and no number that the piece needs is spent.
-pub record Answered (v : View) (store : StoreInMemory) (trace : Bool) (w : World) (piece : Piece) (reply : List ℕ) (outcome : Outcome) : Type 0 where
-  pub serves : ServesWorld v store trace (steps.after w piece)
+-- The parts and the session serve the world after the piece, the reply is that of the world's step, the outcome that of the model's turn, and no number that the piece needs is spent.
+pub record Answered (v : View) (p : Parts) (session : StoreSession) (w : World) (piece : Piece) (reply : List ℕ) (outcome : Outcome) : Type 0 where
+  pub serves : PartsServe v p session (steps.after w piece)
   pub reply_is : reply ≡ steps.reply w piece
   pub outcome_is : outcome ≡ outcome_of (refused_by grammar_parser w.session (state_of w.layout) piece)
   pub unspent : spent w.layout (steps.moves w piece) ≡ None
@@ -32,12 +35,12 @@ IsFetch parsed = ⊥
 abbrev pub PrintsStored : Parser → SessionState → State → Piece → Type 0
 PrintsStored parser session s piece = (IsQuery (read_by parser piece) ⊎ IsFetch (read_by parser piece) ⊎ IsShowFiles (read_by parser piece)) × (refused_by parser session s piece ≡ None)
 
--- Whatever the files are, from a session and a state: the outcome is that of the model's turn, and so is the reply, but where it comes from the files or tells of them. The store has the definitions and the largest timestamp of the state after the piece, and no cursor is open in the session after it.
-pub record AnsweredButRows (store : StoreInMemory) (session : SessionState) (s : State) (piece : Piece) (reply : List ℕ) (outcome : Outcome) : Type 0 where
-  pub state_is : IsStateOf (known_in_memory store) (step s piece).state
-  pub cursors_are : HasNoCursor (session_by grammar_parser session s piece)
-  pub outcome_is : outcome ≡ outcome_of (refused_by grammar_parser session s piece)
-  pub reply_is : ¬ (PrintsStored grammar_parser session s piece) → reply ≡ (turn_by grammar_parser session s piece).reply
+-- Whatever the files are, from a session of the model and a state: the outcome is that of the model's turn, and so is the reply, but where it comes from the files or tells of them. The store's parts have the definitions and the largest timestamp of the state after the piece. No cursor is open in the model's session after it, as none is in the store's.
+pub record AnsweredButRows (p : Parts) (session : StoreSession) (x : SessionState) (s : State) (piece : Piece) (reply : List ℕ) (outcome : Outcome) : Type 0 where
+  pub state_is : IsStateOf (known_in_memory (memory_of p)) (step s piece).state
+  pub cursors_are : HasNoCursor (session_by grammar_parser x s piece)
+  pub outcome_is : outcome ≡ outcome_of (refused_by grammar_parser x s piece)
+  pub reply_is : ¬ (PrintsStored grammar_parser x s piece) → reply ≡ (turn_by grammar_parser x s piece).reply
 
 -- SHOW FILES, which tells what is in memory, or TRACE
 abbrev pub AsksNoFile : ParsedPiece → Type 0

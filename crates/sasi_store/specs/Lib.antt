@@ -1,7 +1,6 @@
 pub mod Faults
 pub mod Held
 pub mod StoreView
-pub mod Codes
 pub mod Answers
 pub mod MakesMoves
 pub mod Puts

@@ -1,5 +1,5 @@
 -- What contracts see of a store.
-use Rattle.std.specs.Prelude.{◌≡◌, ℕ, Bool, IsTrue, List, [], map}
+use Rattle.std.specs.Prelude.{◌≡◌, IsTrue, List, [], map}
 use Rattle.std.specs.List.{AllByRecursion}
 use Rattle.sasi_types.specs.declared.partitioner.Partitioner.{Partitioner}
 use Rattle.sasi_host.specs.View.{View}
@@ -12,21 +12,7 @@ use Rattle.sasi_views.specs.Books.{Book}
 use Rattle.sasi_views.specs.Kept.{IsCounted}
 use Rattle.sasi_store.specs.Held.{AreMapped, HasRegularIndexes, HeldTable, Subject, held_of, in_memory, subjects_of}
 use Rattle.sasi_store.specs.declared.parts.Parts.{Parts}
-
-pub record StoreView : Type 0 where
-  -- what it has in memory of its folder
-  pub memory : StoreInMemory
-  -- TRACE is on
-  pub trace : Bool
-  -- the number of steps that were begun
-  pub steps : ℕ
-  -- every step succeeded
-  pub usable : Bool
-
--- It can make a step.
-pub record IsReady (v : View) (store : StoreView) : Type 0 where
-  pub memory : layout.CanChange v store.memory
-  pub usable : IsTrue store.usable
+use Rattle.sasi_store.specs.declared.store.Store.{Store}
 
 -- ---- views
 
@@ -64,3 +50,16 @@ pub record IsOfParts (p : Parts) : Type 0 where
   pub tables : AreTables p.manifest.listing.partitioner (held_in p)
   pub mapped : AreMapped p.maps p.last_map (wanted_of p) p.tables.items
   pub regular : AllByRecursion HasRegularIndexes p.manifest.listing.tables
+
+-- ---- a store
+
+-- what it has in memory of its folder
+abbrev pub store_memory : Store → StoreInMemory
+store_memory store = memory_of store.parts
+
+-- It can make a step: every step before succeeded, and no view is out.
+pub record IsReady (v : View) (store : Store) : Type 0 where
+  pub memory : layout.CanChange v (store_memory store)
+  pub usable : IsTrue store.usable
+  pub parts : IsOfParts store.parts
+  pub none_out : HasNoneOut store.session.views

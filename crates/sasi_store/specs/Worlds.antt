@@ -12,7 +12,7 @@ use Rattle.sasi_host.specs.declared.name.FileName.{FileName}
 use Rattle.sasi_layout.specs.FileNames.{file_names}
 use Rattle.sasi_layout.specs.Layout.{Layout, TableParts, state_of}
 use Rattle.sasi_layout.specs.Moves.{after_moves}
-use Rattle.sasi_layout.specs.Serving.{Serves, StoreInMemory}
+use Rattle.sasi_layout.specs.Serving.{Serves}
 use Rattle.sasi_layout.specs.Statements.{definitions_of, moves_by}
 use Rattle.sasi_layout.specs.Transitions.{Transitions}
 use Rattle.sasi_machine.specs.declared.prepared.Selection.{Selection}
@@ -21,6 +21,10 @@ use Rattle.sasi_candidates.specs.LayoutParts.{parts_of}
 use Rattle.sasi_print.specs.Files.{file_text}
 use Rattle.sasi_print.specs.declared.file_lines.FileState.TheVariants.{Current}
 use Rattle.sasi_store.specs.Selects.{conditions_on}
+use Rattle.sasi_store.specs.StoreView.{memory_of}
+use Rattle.sasi_store.specs.declared.parts.Parts.{Parts}
+use Rattle.sasi_store.specs.declared.session_state.SessionState.{SessionState as StoreSession}
+use Rattle.sasi_store.specs.declared.store.Store.{Store}
 
 pub record World : Type 0 where
   pub layout : Layout
@@ -85,8 +89,12 @@ steps = steps_by grammar_parser
 abbrev pub HasNoCursor : SessionState → Type 0
 HasNoCursor session = session.cursors ≡ []
 
--- A store with this in memory, in which TRACE is on or off, serves the world. No cursor is open.
-pub record ServesWorld (v : View) (store : StoreInMemory) (trace : Bool) (w : World) : Type 0 where
-  pub serves : Serves v store w.layout
-  pub trace_is : trace ≡ w.session.trace
+-- A store with these parts and this session serves the world: the session's TRACE is the world's. No cursor is open.
+pub record PartsServe (v : View) (p : Parts) (session : StoreSession) (w : World) : Type 0 where
+  pub serves : Serves v (memory_of p) w.layout
+  pub trace_is : session.trace ≡ w.session.trace
   pub cursors_are : HasNoCursor w.session
+
+-- the store serves the world
+abbrev pub ServesWorld : View → Store → World → Type 0
+ServesWorld v store w = PartsServe v store.parts store.session w

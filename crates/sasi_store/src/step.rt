@@ -40,7 +40,7 @@ pub fn step<H: Host>(
     requires classes { KnowsClasses (map (λ b. kind (b.vtable, b.value)) kit.old.objects.items) (memory_of parts.old) }
     requires none_out { HasNoneOut session.old.views }
     ensures kinds { map (λ b. kind (b.vtable, b.value)) kit.new.objects.items ≡ map (λ b. kind (b.vtable, b.value)) kit.old.objects.items }
-    ensures steps { StepPromises (map (λ b. kind (b.vtable, b.value)) kit.old.objects.items) (piece_of end piece.now) (H.view host.old) (H.view host.new) (memory_of parts.old) (memory_of parts.new) session.old.trace session.new.trace reply.new result }
+    ensures steps { StepPromises (map (λ b. kind (b.vtable, b.value)) kit.old.objects.items) (piece_of end piece.now) (H.view host.old) (H.view host.new) parts.old parts.new session.old session.new reply.new result }
     ensures no_file_call { (x : ModelSession) (s : State) → HasNoCursor x → IsStateOf (known_in_memory (memory_of parts.old)) s → NeedsNoFile x s (piece_of end piece.now) → host.new ≡ host.old }
     ensures parts { OnOk result (IsOfParts parts.new) }
     ensures back { HasNoneOut session.new.views }

@@ -25,7 +25,7 @@ ghost use Rattle.sasi_store.specs.Answers.{Answered, AnsweredButRows, NeedsNoFil
 ghost use Rattle.sasi_store.specs.Faults.{OnMissing as OnMissingClass, OnSpent, OnStepDamage, StepCauses};
 ghost use Rattle.sasi_store.specs.Frames.{KeepsFilesOf, KeepsListed};
 ghost use Rattle.sasi_store.specs.Selects.{HasShortRows, select_reads};
-ghost use Rattle.sasi_store.specs.StoreView.{IsReady};
+ghost use Rattle.sasi_store.specs.StoreView.{IsReady, store_memory};
 ghost use Rattle.sasi_store.specs.Worlds.{HasNoCursor, ServesWorld, World, new_world, steps};
 
 use crate::StepFault;
@@ -39,7 +39,6 @@ use sasi_recover::OpenFault;
 use sasi_types::{Partitioner, PieceEnd};
 use sasi_views::ViewBook;
 use std::alloc::Global;
-use std::marker::Model;
 
 /// A store over a folder.
 #[derive(Drop)]
@@ -48,20 +47,6 @@ pub struct Store {
     session: SessionState,
     steps: u64,
     usable: bool,
-}
-
-impl Model for Store {
-    ghost use Rattle.std.specs.Prelude.{IsTrue};
-    ghost use Rattle.sasi_store.specs.Codes.{coded_store};
-    ghost use Rattle.sasi_store.specs.StoreView.{HasNoneOut, IsOfParts, StoreView, memory_of};
-
-    ghost Value = { StoreView };
-
-    ghost coded = { coded_store };
-
-    ghost view = { λ a. record { memory = memory_of a.parts; trace = a.session.trace; steps = a.steps; usable = a.usable } };
-
-    ghost invariant = { λ a. (IsTrue a.usable → IsOfParts a.parts) × HasNoneOut a.session.views };
 }
 
 impl Store {
@@ -73,12 +58,12 @@ impl Store {
         asked: Option<Partitioner>,
     ) -> Result<Store, OpenFault>
         ensures ready { IfOk result (λ store. IsReady (H.view host.new) store) }
-        ensures state { IfOk result (λ store. (s : State) × IsStateOf (known_in_memory store.memory) s) }
-        ensures serves { (folder : Folder) (l : Layout) → (H.view host.old).files ≡ Some folder → ShapeOf asked folder l → IfOk result (λ store. ServesWorld (H.view host.new) store.memory store.trace (new_world l)) }
+        ensures state { IfOk result (λ store. (s : State) × IsStateOf (known_in_memory (store_memory store)) s) }
+        ensures serves { (folder : Folder) (l : Layout) → (H.view host.old).files ≡ Some folder → ShapeOf asked folder l → IfOk result (λ store. ServesWorld (H.view host.new) store (new_world l)) }
         ensures opens { (folder : Folder) → (H.view host.old).files ≡ Some folder → OnOk result (CanOpen folder) }
         ensures safe { OpensSafely asked (H.view host.old) (H.view host.new) }
         // An analyzer is there for each index.
-        ensures classes { IfOk result (λ store. KnowsClasses (map (λ b. kind (b.vtable, b.value)) kit.old.objects.items) store.memory) }
+        ensures classes { IfOk result (λ store. KnowsClasses (map (λ b. kind (b.vtable, b.value)) kit.old.objects.items) (store_memory store)) }
         ensures kinds { map (λ b. kind (b.vtable, b.value)) kit.new.objects.items ≡ map (λ b. kind (b.vtable, b.value)) kit.old.objects.items }
         ensures reports { ReportsTruly asked (map (λ b. kind (b.vtable, b.value)) kit.old.objects.items) (H.view host.old) result }
         // A folder that keeps another partitioner, or that needs an analyzer that isn't there, stays as it is.
@@ -114,29 +99,29 @@ impl Store {
         reply: &mut Reply,
     ) -> Result<Outcome, StepFault>
         requires ready { IsReady (H.view host.old) self.old }
-        requires classes { KnowsClasses (map (λ b. kind (b.vtable, b.value)) kit.old.objects.items) self.old.memory }
-        ensures answers { IfOk result (λ outcome. (w : World) → ServesWorld (H.view host.old) self.old.memory self.old.trace w → Answered (H.view host.new) self.new.memory self.new.trace w (piece_of end piece.now) reply.new outcome) }
-        ensures everywhere { IfOk result (λ outcome. (x : ModelSession) (s : State) → HasNoCursor x → IsStateOf (known_in_memory self.old.memory) s → AnsweredButRows self.new.memory x s (piece_of end piece.now) reply.new outcome) }
+        requires classes { KnowsClasses (map (λ b. kind (b.vtable, b.value)) kit.old.objects.items) (store_memory self.old) }
+        ensures answers { IfOk result (λ outcome. (w : World) → ServesWorld (H.view host.old) self.old w → Answered (H.view host.new) self.new.parts self.new.session w (piece_of end piece.now) reply.new outcome) }
+        ensures everywhere { IfOk result (λ outcome. (x : ModelSession) (s : State) → HasNoCursor x → IsStateOf (known_in_memory (store_memory self.old)) s → AnsweredButRows self.new.parts self.new.session x s (piece_of end piece.now) reply.new outcome) }
         ensures ready { OnOk result (IsReady (H.view host.new) self.new) }
-        ensures any_moment { (w : World) → ServesWorld (H.view host.old) self.old.memory self.old.trace w → Changes (λ x y. Between w.layout (steps.moves w (piece_of end piece.now)) y) (H.view host.old) (H.view host.new) }
-        ensures spent { IfErr result (OnSpent (λ kind. (w : World) → ServesWorld (H.view host.old) self.old.memory self.old.trace w → spent w.layout (steps.moves w (piece_of end piece.now)) ≡ Some kind)) }
+        ensures any_moment { (w : World) → ServesWorld (H.view host.old) self.old w → Changes (λ x y. Between w.layout (steps.moves w (piece_of end piece.now)) y) (H.view host.old) (H.view host.new) }
+        ensures spent { IfErr result (OnSpent (λ kind. (w : World) → ServesWorld (H.view host.old) self.old w → spent w.layout (steps.moves w (piece_of end piece.now)) ≡ Some kind)) }
         // An analyzer is there for each index, also for a new one. Where none is for a new one, no number was looked at.
-        ensures classes { OnOk result (KnowsClasses (map (λ b. kind (b.vtable, b.value)) kit.new.objects.items) self.new.memory) }
+        ensures classes { OnOk result (KnowsClasses (map (λ b. kind (b.vtable, b.value)) kit.new.objects.items) (store_memory self.new)) }
         ensures kinds { map (λ b. kind (b.vtable, b.value)) kit.new.objects.items ≡ map (λ b. kind (b.vtable, b.value)) kit.old.objects.items }
-        ensures needed { IfOk result (λ outcome. HasNeeded (map (λ b. kind (b.vtable, b.value)) kit.old.objects.items) (class_needed (asks (known_in_memory self.old.memory) (piece_of end piece.now)))) }
-        ensures needed_first { IfErr result (OnSpent (λ _. HasNeeded (map (λ b. kind (b.vtable, b.value)) kit.old.objects.items) (class_needed (asks (known_in_memory self.old.memory) (piece_of end piece.now))))) }
-        ensures missing { IfErr result (OnMissingClass (LacksNeeded (map (λ b. kind (b.vtable, b.value)) kit.old.objects.items) (asks (known_in_memory self.old.memory) (piece_of end piece.now)))) }
+        ensures needed { IfOk result (λ outcome. HasNeeded (map (λ b. kind (b.vtable, b.value)) kit.old.objects.items) (class_needed (asks (known_in_memory (store_memory self.old)) (piece_of end piece.now)))) }
+        ensures needed_first { IfErr result (OnSpent (λ _. HasNeeded (map (λ b. kind (b.vtable, b.value)) kit.old.objects.items) (class_needed (asks (known_in_memory (store_memory self.old)) (piece_of end piece.now))))) }
+        ensures missing { IfErr result (OnMissingClass (LacksNeeded (map (λ b. kind (b.vtable, b.value)) kit.old.objects.items) (asks (known_in_memory (store_memory self.old)) (piece_of end piece.now)))) }
         ensures damaged { (folder : Folder) → (H.view host.new).files ≡ Some folder → IfErr result (OnStepDamage (FolderShows folder)) }
-        ensures undamaged { (w : World) → ServesWorld (H.view host.old) self.old.memory self.old.trace w → IfErr result (OnStepDamage (λ _. ⊥)) }
-        ensures no_file_call { (x : ModelSession) (s : State) → HasNoCursor x → IsStateOf (known_in_memory self.old.memory) s → NeedsNoFile x s (piece_of end piece.now) → host.new ≡ host.old }
-        ensures reads_only { asks (known_in_memory self.old.memory) (piece_of end piece.now) ≡ NoChange → Changes Same (H.view host.old) (H.view host.new) }
+        ensures undamaged { (w : World) → ServesWorld (H.view host.old) self.old w → IfErr result (OnStepDamage (λ _. ⊥)) }
+        ensures no_file_call { (x : ModelSession) (s : State) → HasNoCursor x → IsStateOf (known_in_memory (store_memory self.old)) s → NeedsNoFile x s (piece_of end piece.now) → host.new ≡ host.old }
+        ensures reads_only { asks (known_in_memory (store_memory self.old)) (piece_of end piece.now) ≡ NoChange → Changes Same (H.view host.old) (H.view host.new) }
         ensures unread { (IsQuery (read (piece_of end piece.now)) → ⊥) → (H.view host.new).reads ≡ (H.view host.old).reads }
         // The bound on what a SELECT reads supposes files of at most 2^40 bytes where a relation is on an indexed column.
-        ensures reads { (w : World) → ServesWorld (H.view host.old) self.old.memory self.old.trace w → HasShortRows (H.view host.old).files w.layout (read (piece_of end piece.now)) → (H.view host.new).reads ≤ (H.view host.old).reads + select_reads (H.view host.old).files w.layout (read (piece_of end piece.now)) }
+        ensures reads { (w : World) → ServesWorld (H.view host.old) self.old w → HasShortRows (H.view host.old).files w.layout (read (piece_of end piece.now)) → (H.view host.new).reads ≤ (H.view host.old).reads + select_reads (H.view host.old).files w.layout (read (piece_of end piece.now)) }
         ensures changes { Changes AnyFolderChange (H.view host.old) (H.view host.new) }
         // The files that are listed before the step stay, also where it fails; where it doesn't, they stay listed.
-        ensures files_stay { Changes (KeepsListed self.old.memory.manifest.listing) (H.view host.old) (H.view host.new) }
-        ensures listed_stay { OnOk result (KeepsFilesOf self.old.memory.manifest.listing self.new.memory.manifest.listing) }
+        ensures files_stay { Changes (KeepsListed self.old.parts.manifest.listing) (H.view host.old) (H.view host.new) }
+        ensures listed_stay { OnOk result (KeepsFilesOf self.old.parts.manifest.listing self.new.parts.manifest.listing) }
         ensures usable { self.new.usable ≡ is_ok result }
         ensures steps { self.new.steps ≡ counted self.old.steps }
         ensures causes { StepCauses (H.view host.old) (H.view host.new) result }
@@ -173,8 +158,8 @@ impl Store {
     /// Ends the use of the store: the folder is left with the files of its tables and of the log alone.
     pub fn finish<H: Host>(self, host: &mut H) -> Result<(), Failed>
         requires { IsReady (H.view host.old) self }
-        ensures ends { OnOk result ((w : World) → ServesWorld (H.view host.old) self.memory self.trace w → Ended (H.view host.new) (closed w.layout)) }
-        ensures any_moment { (w : World) → ServesWorld (H.view host.old) self.memory self.trace w → Changes (λ x y. Between w.layout [] y) (H.view host.old) (H.view host.new) }
+        ensures ends { OnOk result ((w : World) → ServesWorld (H.view host.old) self w → Ended (H.view host.new) (closed w.layout)) }
+        ensures any_moment { (w : World) → ServesWorld (H.view host.old) self w → Changes (λ x y. Between w.layout [] y) (H.view host.old) (H.view host.new) }
         ensures unchanged { host.new ≡ host.old }
         ensures causes { DiskCauses (H.view host.old) (H.view host.new) result }
     {

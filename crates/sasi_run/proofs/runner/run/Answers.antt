@@ -2,7 +2,7 @@ use Rattle.std.proofs.Common.{List, map, refl, subst}
 use Rattle.std.specs.Prelude.{string_bytes}
 use Rattle.sasi_types.specs.declared.class.Class.{Class}
 use Rattle.sasi_run.specs.Causes.{RunCauses}
-use Rattle.sasi_store.specs.StoreView.{StoreView}
+use Rattle.sasi_store.specs.declared.store.Store.{Store}
 use Rattle.sasi_run.proofs.Causes.{causes_opened, causes_unopened, causes_unused}
 use Rattle.sasi_run.proofs.FailedCalls.{calls_behind, opened_calls, unopened_calls}
 use Rattle.sasi_run.proofs.RunParts.{unmoved}
@@ -40,7 +40,7 @@ returns-in-Err-clause-causes g c =
     let later = g.H.Host.view c.open.new.host in
     let script = g.S.Source.view c.args.script.now in
     subst (λ (kinds : List Class). RunCauses (map (λ w. string_bytes w) c.args.words.now) kinds c.fault_status.result script script start later) c.new-kit.ensures.classes
-    (rw c.fault_status.ensures (causes_unopened StoreView _ _ (g.S.Source.view c.args.script.now) start later (c.in-Some.command, c.in-Some.ensures.some) c.in-Err.fault
+    (rw c.fault_status.ensures (causes_unopened Store _ _ (g.S.Source.view c.args.script.now) start later (c.in-Some.command, c.in-Some.ensures.some) c.in-Err.fault
     (record {
       silent = c.open.ensures.safe.changes.emitted;
       none_out = c.open.ensures.safe.changes.emits;

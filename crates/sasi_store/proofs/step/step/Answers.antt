@@ -1,4 +1,4 @@
-use Rattle.std.proofs.Common.{◌++◌, List, ℕ, ap, map, subst, sym, ◌∙◌}
+use Rattle.std.proofs.Common.{◌++◌, List, ℕ, ap, map, refl, subst, sym, ◌∙◌}
 use Rattle.std.proofs.lemmas.Result.{err_from_is_err_and}
 use Rattle.sasi_cells.specs.Mutations.{state_with_mutation}
 use Rattle.sasi_layout.proofs.ClassLaws.{known_created, known_defined}
@@ -20,13 +20,13 @@ use Rattle.sasi_store.proofs.Prepared.{HasPrepared, blank, blank_definitions, cr
 use Rattle.sasi_store.proofs.NoFile.{UsesHost, needs_host}
 use Rattle.sasi_store.proofs.StepCursors.{step_closed, step_fetched, step_opened}
 use Rattle.sasi_store.proofs.StepFiles.{step_listed}
-use Rattle.sasi_store.proofs.Stepping.{select_answered, select_failed, select_turns, select_within, state_is, step_answered, step_failed, step_full, step_made, step_missing, step_traced, step_unprepared, trace_left}
+use Rattle.sasi_store.proofs.Stepping.{select_answered, select_failed, select_turns, select_within, state_is, step_answered, step_failed, step_full, step_made, step_missing, step_traced, step_unprepared}
 use Rattle.sasi_store.proofs.step.step.Goals as goal
 
 pub returns-in_err-outcome-clause-steps : goal.returns-in_err-outcome-clause-steps
 returns-in_err-outcome-clause-steps g c =
     let p = err_from_is_err_and c.from_residual.result c.from_residual.ensures.1 in
-    rw (p.1, p.2) (step_unprepared (map (λ b. (goal.Analyzer-dyn g (b.vtable, b.value)).kind b.value) c.args.kit.now.objects.items) (g.H.Host.view c.args.host.now) (g.met.H.Host.sound c.args.host.now) (memory_of c.args.parts.now) (piece_of c.args.end c.args.piece.now) c.prepare.new.reply c.in_err-outcome.field-0.0 c.requires.classes c.in_err-outcome.ensures.missing)
+    rw (p.1, p.2) (step_unprepared (map (λ b. (goal.Analyzer-dyn g (b.vtable, b.value)).kind b.value) c.args.kit.now.objects.items) (g.H.Host.view c.args.host.now) (g.met.H.Host.sound c.args.host.now) c.args.parts.now (piece_of c.args.end c.args.piece.now) c.prepare.new.reply c.in_err-outcome.field-0.0 c.requires.classes c.in_err-outcome.ensures.missing)
 
 pub returns-in-Answered-clause-steps : goal.returns-in-Answered-clause-steps
 returns-in-Answered-clause-steps g c =
@@ -36,7 +36,7 @@ returns-in-Answered-clause-steps g c =
     let e = c.in_ok-outcome.ensures in
     let all : HasPrepared parts piece c.prepare.new.reply c.in_ok-outcome.field-0 = record { asked = e.asked; prepares = e.prepares; timeless = e.timeless; selects = e.selects } in
     let has = subst (HasPrepared parts piece c.prepare.new.reply) c.in-Answered.is all in
-    step_answered (map (λ b. (goal.Analyzer-dyn g (b.vtable, b.value)).kind b.value) c.args.kit.now.objects.items) v (g.met.H.Host.sound c.args.host.now) (memory_of parts) piece c.prepare.new.reply _ c.requires.ready has.asked has.prepares
+    step_answered (map (λ b. (goal.Analyzer-dyn g (b.vtable, b.value)).kind b.value) c.args.kit.now.objects.items) v (g.met.H.Host.sound c.args.host.now) parts piece c.prepare.new.reply _ c.requires.ready has.asked has.prepares
 
 pub create-requires-clause-creatable : goal.create-requires-clause-creatable
 create-requires-clause-creatable g c =
@@ -96,7 +96,7 @@ returns-in_err-create-in-Create-clause-steps g c =
     let all : HasPrepared parts piece c.prepare.new.reply c.in_ok-outcome.field-0 = record { asked = e.asked; prepares = e.prepares; timeless = e.timeless; selects = e.selects } in
     let has = subst (HasPrepared parts piece c.prepare.new.reply) c.in-Create.is all in
     let p = err_from_is_err_and c.from_residual-in_err-create-in-Create.result c.from_residual-in_err-create-in-Create.ensures.1 in
-    rw (p.1, p.2) (step_failed (map (λ b. (goal.Analyzer-dyn g (b.vtable, b.value)).kind b.value) c.args.kit.now.objects.items) v (g.H.Host.view c.create.new.host) (memory_of parts) (memory_of c.create.new.parts) piece c.prepare.new.reply (ask.Creates (definition c.in-Create.table)) has.asked (λ none. cc) _ c.in_err-create-in-Create.ensures.makes tt)
+    rw (p.1, p.2) (step_failed (map (λ b. (goal.Analyzer-dyn g (b.vtable, b.value)).kind b.value) c.args.kit.now.objects.items) v (g.H.Host.view c.create.new.host) parts c.create.new.parts piece c.prepare.new.reply (ask.Creates (definition c.in-Create.table)) has.asked (λ none. cc) _ c.in_err-create-in-Create.ensures.makes tt)
 
 pub returns-in_ok-create-in-Create-clause-steps : goal.returns-in_ok-create-in-Create-clause-steps
 returns-in_ok-create-in-Create-clause-steps g c =
@@ -106,7 +106,7 @@ returns-in_ok-create-in-Create-clause-steps g c =
     let e = c.in_ok-outcome.ensures in
     let all : HasPrepared parts piece c.prepare.new.reply c.in_ok-outcome.field-0 = record { asked = e.asked; prepares = e.prepares; timeless = e.timeless; selects = e.selects } in
     let has = subst (HasPrepared parts piece c.prepare.new.reply) c.in-Create.is all in
-    step_made (map (λ b. (goal.Analyzer-dyn g (b.vtable, b.value)).kind b.value) c.args.kit.now.objects.items) v (g.H.Host.view c.create.new.host) (memory_of parts) (memory_of c.create.new.parts) piece c.prepare.new.reply (ask.Creates (definition c.in-Create.table)) has.asked (λ none. cc) _
+    step_made (map (λ b. (goal.Analyzer-dyn g (b.vtable, b.value)).kind b.value) c.args.kit.now.objects.items) v (g.H.Host.view c.create.new.host) parts c.create.new.parts piece c.prepare.new.reply (ask.Creates (definition c.in-Create.table)) has.asked (λ none. cc) _
     (λ s. with_new_table s (definition c.in-Create.table)) c.in_ok-create-in-Create.ensures.makes (λ s of. (has.prepares s of).0)
     (λ s of. known_as (memory_of c.create.new.parts) _ _ _ c.in_ok-create-in-Create.ensures.knows (created_state parts.schema.definitions parts.max_timestamp s (definition c.in-Create.table) of))
     (λ s of. created_leaves s piece c.in-Create.table (has.prepares s of).1)
@@ -121,7 +121,7 @@ returns-in_err-write-in-Write-clause-steps g c =
     let all : HasPrepared parts piece c.prepare.new.reply c.in_ok-outcome.field-0 = record { asked = e.asked; prepares = e.prepares; timeless = e.timeless; selects = e.selects } in
     let has = subst (HasPrepared parts piece c.prepare.new.reply) c.in-Write.is all in
     let p = err_from_is_err_and c.from_residual-in_err-write-in-Write.result c.from_residual-in_err-write-in-Write.ensures.1 in
-    rw (p.1, p.2) (step_failed (map (λ b. (goal.Analyzer-dyn g (b.vtable, b.value)).kind b.value) c.args.kit.now.objects.items) v (g.H.Host.view c.write.new.host) (memory_of parts) (memory_of c.write.new.parts) piece c.prepare.new.reply (ask.Writes c.in-Write.mutation.table c.in-Write.mutation.key c.in-Write.mutation.change) has.asked (λ none. cc) _ c.in_err-write-in-Write.ensures.makes tt)
+    rw (p.1, p.2) (step_failed (map (λ b. (goal.Analyzer-dyn g (b.vtable, b.value)).kind b.value) c.args.kit.now.objects.items) v (g.H.Host.view c.write.new.host) parts c.write.new.parts piece c.prepare.new.reply (ask.Writes c.in-Write.mutation.table c.in-Write.mutation.key c.in-Write.mutation.change) has.asked (λ none. cc) _ c.in_err-write-in-Write.ensures.makes tt)
 
 pub returns-in_ok-write-in-Write-clause-steps : goal.returns-in_ok-write-in-Write-clause-steps
 returns-in_ok-write-in-Write-clause-steps g c =
@@ -131,7 +131,7 @@ returns-in_ok-write-in-Write-clause-steps g c =
     let e = c.in_ok-outcome.ensures in
     let all : HasPrepared parts piece c.prepare.new.reply c.in_ok-outcome.field-0 = record { asked = e.asked; prepares = e.prepares; timeless = e.timeless; selects = e.selects } in
     let has = subst (HasPrepared parts piece c.prepare.new.reply) c.in-Write.is all in
-    step_made (map (λ b. (goal.Analyzer-dyn g (b.vtable, b.value)).kind b.value) c.args.kit.now.objects.items) v (g.H.Host.view c.write.new.host) (memory_of parts) (memory_of c.write.new.parts) piece c.prepare.new.reply (ask.Writes c.in-Write.mutation.table c.in-Write.mutation.key c.in-Write.mutation.change) has.asked (λ none. cc) _
+    step_made (map (λ b. (goal.Analyzer-dyn g (b.vtable, b.value)).kind b.value) c.args.kit.now.objects.items) v (g.H.Host.view c.write.new.host) parts c.write.new.parts piece c.prepare.new.reply (ask.Writes c.in-Write.mutation.table c.in-Write.mutation.key c.in-Write.mutation.change) has.asked (λ none. cc) _
     (λ s. state_with_mutation s c.in-Write.mutation) c.in_ok-write-in-Write.ensures.makes (λ s of. (has.prepares s of).0)
     (λ s of. known_as (memory_of c.write.new.parts) _ _ _ c.in_ok-write-in-Write.ensures.knows (written_state parts.schema.definitions parts.max_timestamp s c.in-Write.mutation (has.prepares s of).2 of))
     (λ s of. written_leaves s piece c.in-Write.mutation (has.prepares s of).1)
@@ -146,7 +146,7 @@ returns-in_err-flush_unless_empty-in-Flush-clause-steps g c =
     let all : HasPrepared parts piece c.prepare.new.reply c.in_ok-outcome.field-0 = record { asked = e.asked; prepares = e.prepares; timeless = e.timeless; selects = e.selects } in
     let has = subst (HasPrepared parts piece c.prepare.new.reply) c.in-Flush.is all in
     let p = err_from_is_err_and c.from_residual-in_err-flush_unless_empty-in-Flush.result c.from_residual-in_err-flush_unless_empty-in-Flush.ensures.1 in
-    rw (p.1, p.2) (step_failed (map (λ b. (goal.Analyzer-dyn g (b.vtable, b.value)).kind b.value) c.args.kit.now.objects.items) v (g.H.Host.view c.flush_unless_empty.new.host) (memory_of parts) (memory_of c.flush_unless_empty.new.parts) piece c.prepare.new.reply (ask.Flushes c.in-Flush.table) has.asked (λ none. cc) _ c.in_err-flush_unless_empty-in-Flush.ensures.makes tt)
+    rw (p.1, p.2) (step_failed (map (λ b. (goal.Analyzer-dyn g (b.vtable, b.value)).kind b.value) c.args.kit.now.objects.items) v (g.H.Host.view c.flush_unless_empty.new.host) parts c.flush_unless_empty.new.parts piece c.prepare.new.reply (ask.Flushes c.in-Flush.table) has.asked (λ none. cc) _ c.in_err-flush_unless_empty-in-Flush.ensures.makes tt)
 
 pub returns-in_ok-flush_unless_empty-in-Flush-clause-steps : goal.returns-in_ok-flush_unless_empty-in-Flush-clause-steps
 returns-in_ok-flush_unless_empty-in-Flush-clause-steps g c =
@@ -156,7 +156,7 @@ returns-in_ok-flush_unless_empty-in-Flush-clause-steps g c =
     let e = c.in_ok-outcome.ensures in
     let all : HasPrepared parts piece c.prepare.new.reply c.in_ok-outcome.field-0 = record { asked = e.asked; prepares = e.prepares; timeless = e.timeless; selects = e.selects } in
     let has = subst (HasPrepared parts piece c.prepare.new.reply) c.in-Flush.is all in
-    step_made (map (λ b. (goal.Analyzer-dyn g (b.vtable, b.value)).kind b.value) c.args.kit.now.objects.items) v (g.H.Host.view c.flush_unless_empty.new.host) (memory_of parts) (memory_of c.flush_unless_empty.new.parts) piece c.prepare.new.reply (ask.Flushes c.in-Flush.table) has.asked (λ none. cc) _
+    step_made (map (λ b. (goal.Analyzer-dyn g (b.vtable, b.value)).kind b.value) c.args.kit.now.objects.items) v (g.H.Host.view c.flush_unless_empty.new.host) parts c.flush_unless_empty.new.parts piece c.prepare.new.reply (ask.Flushes c.in-Flush.table) has.asked (λ none. cc) _
     (λ s. s) c.in_ok-flush_unless_empty-in-Flush.ensures.makes (λ s of. (has.prepares s of).0)
     (λ s of. known_as (memory_of c.flush_unless_empty.new.parts) _ _ _ c.in_ok-flush_unless_empty-in-Flush.ensures.knows of)
     (λ s of. flushed_leaves s piece c.in-Flush.table (has.prepares s of).1)
@@ -173,8 +173,8 @@ returns-in_err-select-in-Select-clause-steps g c =
     let p = err_from_is_err_and c.from_residual-in_err-select-in-Select.result c.from_residual-in_err-select-in-Select.ensures.1 in
     let i = c.in_err-select-in-Select.ensures in
     let prepared = has.timeless tt (blank v parts c.requires.ready) (blank_definitions v parts c.requires.ready) in
-    rw (p.1, p.2) (trace_left c.select.ensures.trace (select_failed (map (λ b. (goal.Analyzer-dyn g (b.vtable, b.value)).kind b.value) c.args.kit.now.objects.items) v (g.H.Host.view c.select.new.host) (g.met.H.Host.sound c.args.host.now) (memory_of parts) piece c.select.ensures.changes has.asked (has.selects tt) _ c.select.new.reply i.damaged i.undamaged i.unspent i.present
-    (select_within v (g.H.Host.view c.select.new.host) (memory_of parts) (blank v parts c.requires.ready) piece c.in-Select.rows (blank_definitions v parts c.requires.ready) prepared.3 c.select.ensures.reads) i.causes))
+    rw (p.1, p.2) (select_failed (map (λ b. (goal.Analyzer-dyn g (b.vtable, b.value)).kind b.value) c.args.kit.now.objects.items) v (g.H.Host.view c.select.new.host) (g.met.H.Host.sound c.args.host.now) parts piece c.select.ensures.changes has.asked (has.selects tt) _ c.select.new.reply i.damaged i.undamaged i.unspent i.present
+    (select_within v (g.H.Host.view c.select.new.host) parts (blank v parts c.requires.ready) piece c.in-Select.rows (blank_definitions v parts c.requires.ready) prepared.3 c.select.ensures.reads) i.causes)
 
 pub returns-in_ok-select-in-Select-clause-steps : goal.returns-in_ok-select-in-Select-clause-steps
 returns-in_ok-select-in-Select-clause-steps g c =
@@ -186,12 +186,12 @@ returns-in_ok-select-in-Select-clause-steps g c =
     let has = subst (HasPrepared parts piece c.prepare.new.reply) c.in-Select.is all in
     let i = c.in_ok-select-in-Select.ensures in
     let prepared = has.timeless tt (blank v parts c.requires.ready) (blank_definitions v parts c.requires.ready) in
-    trace_left c.select.ensures.trace (select_answered (map (λ b. (goal.Analyzer-dyn g (b.vtable, b.value)).kind b.value) c.args.kit.now.objects.items) v (g.H.Host.view c.select.new.host) (g.met.H.Host.sound c.args.host.now) (memory_of parts) piece c.select.ensures.changes has.asked (has.selects tt) _ c.select.new.reply c.requires.ready
+    select_answered (map (λ b. (goal.Analyzer-dyn g (b.vtable, b.value)).kind b.value) c.args.kit.now.objects.items) v (g.H.Host.view c.select.new.host) (g.met.H.Host.sound c.args.host.now) parts piece c.select.ensures.changes has.asked (has.selects tt) _ c.select.new.reply c.select.ensures.trace c.requires.ready
     (λ w serves.
     let all = has.prepares (state_of w.layout) (state_is v (memory_of parts) w.layout serves.serves) in
     select_turns w piece c.in-Select.rows c.args.session.now.trace c.select.new.reply all.0 all.3 serves.trace_is (i.ok w.layout serves.serves ∙ ap (λ (front : List ℕ). front ++ (answer_rows (state_of w.layout) c.in-Select.rows ++ rows_tail c.args.session.now.trace (selection_checks w.layout c.in-Select.rows))) prepared.1))
     (λ s of. let prepared = has.prepares s of in (prepared.0.state_is, prepared.0.outcome_is, selected_turns s piece c.in-Select.rows prepared.3))
-    (select_within v (g.H.Host.view c.select.new.host) (memory_of parts) (blank v parts c.requires.ready) piece c.in-Select.rows (blank_definitions v parts c.requires.ready) prepared.3 c.select.ensures.reads) i.causes)
+    (select_within v (g.H.Host.view c.select.new.host) parts (blank v parts c.requires.ready) piece c.in-Select.rows (blank_definitions v parts c.requires.ready) prepared.3 c.select.ensures.reads) i.causes
 
 -- ---- a new index
 
@@ -214,7 +214,7 @@ returns-in_err-check_class-in-Define-clause-steps g c =
     let all : HasPrepared parts piece c.prepare.new.reply c.in_ok-outcome.field-0 = record { asked = e.asked; prepares = e.prepares; timeless = e.timeless; selects = e.selects } in
     let has = subst (HasPrepared parts piece c.prepare.new.reply) c.in-Define.is all in
     let p = err_from_is_err_and c.from_residual-in_err-check_class-in-Define.result c.from_residual-in_err-check_class-in-Define.ensures.1 in
-    rw (p.1, p.2) (step_missing (map (λ b. (goal.Analyzer-dyn g (b.vtable, b.value)).kind b.value) c.args.kit.now.objects.items) v (g.met.H.Host.sound c.args.host.now) (memory_of parts) piece c.prepare.new.reply (ask.Defines c.in-Define.index.table (index_of_new c.in-Define.index)) c.in_err-check_class-in-Define.field-0.0 has.asked (subst (λ (kinds : List Class). LacksNeeded kinds (ask.Defines c.in-Define.index.table (index_of_new c.in-Define.index)) c.in_err-check_class-in-Define.field-0.0) c.prepare.ensures.kinds c.in_err-check_class-in-Define.ensures.missing))
+    rw (p.1, p.2) (step_missing (map (λ b. (goal.Analyzer-dyn g (b.vtable, b.value)).kind b.value) c.args.kit.now.objects.items) v (g.met.H.Host.sound c.args.host.now) parts piece c.prepare.new.reply (ask.Defines c.in-Define.index.table (index_of_new c.in-Define.index)) c.in_err-check_class-in-Define.field-0.0 has.asked (subst (λ (kinds : List Class). LacksNeeded kinds (ask.Defines c.in-Define.index.table (index_of_new c.in-Define.index)) c.in_err-check_class-in-Define.field-0.0) c.prepare.ensures.kinds c.in_err-check_class-in-Define.ensures.missing))
 
 pub returns-in_err-define-in-Define-clause-steps : goal.returns-in_err-define-in-Define-clause-steps
 returns-in_err-define-in-Define-clause-steps g c =
@@ -225,7 +225,7 @@ returns-in_err-define-in-Define-clause-steps g c =
     let all : HasPrepared parts piece c.prepare.new.reply c.in_ok-outcome.field-0 = record { asked = e.asked; prepares = e.prepares; timeless = e.timeless; selects = e.selects } in
     let has = subst (HasPrepared parts piece c.prepare.new.reply) c.in-Define.is all in
     let p = err_from_is_err_and c.from_residual-in_err-define-in-Define.result c.from_residual-in_err-define-in-Define.ensures.1 in
-    rw (p.1, p.2) (step_failed (map (λ b. (goal.Analyzer-dyn g (b.vtable, b.value)).kind b.value) c.args.kit.now.objects.items) v (g.H.Host.view c.define.new.host) (memory_of parts) (memory_of c.define.new.parts) piece c.prepare.new.reply (ask.Defines c.in-Define.index.table (index_of_new c.in-Define.index)) has.asked (λ none. cc) _ c.in_err-define-in-Define.ensures.makes (subst (λ (kinds : List Class). HasNeeded kinds (class_needed (ask.Defines c.in-Define.index.table (index_of_new c.in-Define.index)))) c.prepare.ensures.kinds c.in_ok-check_class-in-Define.ensures.there))
+    rw (p.1, p.2) (step_failed (map (λ b. (goal.Analyzer-dyn g (b.vtable, b.value)).kind b.value) c.args.kit.now.objects.items) v (g.H.Host.view c.define.new.host) parts c.define.new.parts piece c.prepare.new.reply (ask.Defines c.in-Define.index.table (index_of_new c.in-Define.index)) has.asked (λ none. cc) _ c.in_err-define-in-Define.ensures.makes (subst (λ (kinds : List Class). HasNeeded kinds (class_needed (ask.Defines c.in-Define.index.table (index_of_new c.in-Define.index)))) c.prepare.ensures.kinds c.in_ok-check_class-in-Define.ensures.there))
 
 pub returns-in_ok-define-in-Define-clause-steps : goal.returns-in_ok-define-in-Define-clause-steps
 returns-in_ok-define-in-Define-clause-steps g c =
@@ -235,7 +235,7 @@ returns-in_ok-define-in-Define-clause-steps g c =
     let e = c.in_ok-outcome.ensures in
     let all : HasPrepared parts piece c.prepare.new.reply c.in_ok-outcome.field-0 = record { asked = e.asked; prepares = e.prepares; timeless = e.timeless; selects = e.selects } in
     let has = subst (HasPrepared parts piece c.prepare.new.reply) c.in-Define.is all in
-    step_made (map (λ b. (goal.Analyzer-dyn g (b.vtable, b.value)).kind b.value) c.args.kit.now.objects.items) v (g.H.Host.view c.define.new.host) (memory_of parts) (memory_of c.define.new.parts) piece c.prepare.new.reply (ask.Defines c.in-Define.index.table (index_of_new c.in-Define.index)) has.asked (λ none. cc) _
+    step_made (map (λ b. (goal.Analyzer-dyn g (b.vtable, b.value)).kind b.value) c.args.kit.now.objects.items) v (g.H.Host.view c.define.new.host) parts c.define.new.parts piece c.prepare.new.reply (ask.Defines c.in-Define.index.table (index_of_new c.in-Define.index)) has.asked (λ none. cc) _
     (λ s. state_with_index s c.in-Define.index.table (index_of_new c.in-Define.index)) c.in_ok-define-in-Define.ensures.makes (λ s of. (has.prepares s of).0)
     (λ s of. known_as (memory_of c.define.new.parts) _ _ _ c.in_ok-define-in-Define.ensures.knows (defined_state parts.schema.definitions parts.max_timestamp s c.in-Define.index.table (index_of_new c.in-Define.index) of))
     (λ s of. defined_leaves s piece c.in-Define.index (has.prepares s of).1)
@@ -309,14 +309,14 @@ returns-in-Trace-clause-steps g c =
     let e = c.in_ok-outcome.ensures in
     let all : HasPrepared parts piece c.prepare.new.reply c.in_ok-outcome.field-0 = record { asked = e.asked; prepares = e.prepares; timeless = e.timeless; selects = e.selects } in
     let has = subst (HasPrepared parts piece c.prepare.new.reply) c.in-Trace.is all in
-    step_traced (map (λ b. (goal.Analyzer-dyn g (b.vtable, b.value)).kind b.value) c.args.kit.now.objects.items) v (g.met.H.Host.sound c.args.host.now) (memory_of parts) piece c.prepare.new.reply c.in-Trace.on c.requires.ready has.asked has.prepares
+    step_traced (map (λ b. (goal.Analyzer-dyn g (b.vtable, b.value)).kind b.value) c.args.kit.now.objects.items) v (g.met.H.Host.sound c.args.host.now) parts piece c.prepare.new.reply c.in-Trace.on refl c.requires.ready has.asked has.prepares
 
 -- ---- SHOW FILES
 
 pub returns-in_err-show_files-in-Files-clause-steps : goal.returns-in_err-show_files-in-Files-clause-steps
 returns-in_err-show_files-in-Files-clause-steps g c =
     let p = err_from_is_err_and c.from_residual-in_err-show_files-in-Files.result c.from_residual-in_err-show_files-in-Files.ensures.1 in
-    rw (p.1, p.2) (step_full (map (λ b. (goal.Analyzer-dyn g (b.vtable, b.value)).kind b.value) c.args.kit.now.objects.items) (g.H.Host.view c.args.host.now) (g.met.H.Host.sound c.args.host.now) (memory_of c.args.parts.now) (piece_of c.args.end c.args.piece.now) c.show_files.new.reply)
+    rw (p.1, p.2) (step_full (map (λ b. (goal.Analyzer-dyn g (b.vtable, b.value)).kind b.value) c.args.kit.now.objects.items) (g.H.Host.view c.args.host.now) (g.met.H.Host.sound c.args.host.now) c.args.parts.now (piece_of c.args.end c.args.piece.now) c.show_files.new.reply)
 
 pub returns-in_ok-show_files-in-Files-clause-steps : goal.returns-in_ok-show_files-in-Files-clause-steps
 returns-in_ok-show_files-in-Files-clause-steps g c =
@@ -325,14 +325,14 @@ returns-in_ok-show_files-in-Files-clause-steps g c =
     let e = c.in_ok-outcome.ensures in
     let all : HasPrepared parts piece c.prepare.new.reply c.in_ok-outcome.field-0 = record { asked = e.asked; prepares = e.prepares; timeless = e.timeless; selects = e.selects } in
     let has = subst (HasPrepared parts piece c.prepare.new.reply) c.in-Files.is all in
-    step_listed (map (λ b. (goal.Analyzer-dyn g (b.vtable, b.value)).kind b.value) c.args.kit.now.objects.items) (g.H.Host.view c.args.host.now) (g.met.H.Host.sound c.args.host.now) (memory_of parts) piece c.prepare.new.reply c.show_files.new.reply c.requires.ready has.asked has.prepares c.in_ok-show_files-in-Files.ensures
+    step_listed (map (λ b. (goal.Analyzer-dyn g (b.vtable, b.value)).kind b.value) c.args.kit.now.objects.items) (g.H.Host.view c.args.host.now) (g.met.H.Host.sound c.args.host.now) parts piece c.prepare.new.reply c.show_files.new.reply c.requires.ready has.asked has.prepares c.in_ok-show_files-in-Files.ensures
 
 -- ---- statements on cursors
 
 pub returns-in_err-reply_refusal-in-Open-clause-steps : goal.returns-in_err-reply_refusal-in-Open-clause-steps
 returns-in_err-reply_refusal-in-Open-clause-steps g c =
     let p = err_from_is_err_and c.from_residual-in_err-reply_refusal-in-Open.result c.from_residual-in_err-reply_refusal-in-Open.ensures.1 in
-    rw (p.1, p.2) (step_full (map (λ b. (goal.Analyzer-dyn g (b.vtable, b.value)).kind b.value) c.args.kit.now.objects.items) (g.H.Host.view c.args.host.now) (g.met.H.Host.sound c.args.host.now) (memory_of c.args.parts.now) (piece_of c.args.end c.args.piece.now) c.reply_refusal.new.reply)
+    rw (p.1, p.2) (step_full (map (λ b. (goal.Analyzer-dyn g (b.vtable, b.value)).kind b.value) c.args.kit.now.objects.items) (g.H.Host.view c.args.host.now) (g.met.H.Host.sound c.args.host.now) c.args.parts.now (piece_of c.args.end c.args.piece.now) c.reply_refusal.new.reply)
 
 pub returns-in_ok-reply_refusal-in-Open-clause-steps : goal.returns-in_ok-reply_refusal-in-Open-clause-steps
 returns-in_ok-reply_refusal-in-Open-clause-steps g c =
@@ -343,13 +343,13 @@ returns-in_ok-reply_refusal-in-Open-clause-steps g c =
     let all : HasPrepared parts piece c.prepare.new.reply c.in_ok-outcome.field-0 = record { asked = e.asked; prepares = e.prepares; timeless = e.timeless; selects = e.selects } in
     let has = subst (HasPrepared parts piece c.prepare.new.reply) c.in-Open.is all in
     let prepared = has.timeless tt (blank v parts c.requires.ready) (blank_definitions v parts c.requires.ready) in
-    step_opened (map (λ b. (goal.Analyzer-dyn g (b.vtable, b.value)).kind b.value) c.args.kit.now.objects.items) v (g.met.H.Host.sound c.args.host.now) (memory_of parts) piece c.prepare.new.reply c.reply_refusal.new.reply _ c.requires.ready has.asked prepared.1
+    step_opened (map (λ b. (goal.Analyzer-dyn g (b.vtable, b.value)).kind b.value) c.args.kit.now.objects.items) v (g.met.H.Host.sound c.args.host.now) parts piece c.prepare.new.reply c.reply_refusal.new.reply _ c.requires.ready has.asked prepared.1
     c.in-Open.asked _ c.open_refusal.ensures has.prepares c.in_ok-reply_refusal-in-Open.ensures.reply c.in_ok-reply_refusal-in-Open.ensures.outcome
 
 pub returns-in_err-reply_refusal-in-Fetch-clause-steps : goal.returns-in_err-reply_refusal-in-Fetch-clause-steps
 returns-in_err-reply_refusal-in-Fetch-clause-steps g c =
     let p = err_from_is_err_and c.from_residual-in_err-reply_refusal-in-Fetch.result c.from_residual-in_err-reply_refusal-in-Fetch.ensures.1 in
-    rw (p.1, p.2) (step_full (map (λ b. (goal.Analyzer-dyn g (b.vtable, b.value)).kind b.value) c.args.kit.now.objects.items) (g.H.Host.view c.args.host.now) (g.met.H.Host.sound c.args.host.now) (memory_of c.args.parts.now) (piece_of c.args.end c.args.piece.now) c.reply_refusal-in-Fetch.new.reply)
+    rw (p.1, p.2) (step_full (map (λ b. (goal.Analyzer-dyn g (b.vtable, b.value)).kind b.value) c.args.kit.now.objects.items) (g.H.Host.view c.args.host.now) (g.met.H.Host.sound c.args.host.now) c.args.parts.now (piece_of c.args.end c.args.piece.now) c.reply_refusal-in-Fetch.new.reply)
 
 pub returns-in_ok-reply_refusal-in-Fetch-clause-steps : goal.returns-in_ok-reply_refusal-in-Fetch-clause-steps
 returns-in_ok-reply_refusal-in-Fetch-clause-steps g c =
@@ -360,13 +360,13 @@ returns-in_ok-reply_refusal-in-Fetch-clause-steps g c =
     let all : HasPrepared parts piece c.prepare.new.reply c.in_ok-outcome.field-0 = record { asked = e.asked; prepares = e.prepares; timeless = e.timeless; selects = e.selects } in
     let has = subst (HasPrepared parts piece c.prepare.new.reply) c.in-Fetch.is all in
     let prepared = has.timeless tt (blank v parts c.requires.ready) (blank_definitions v parts c.requires.ready) in
-    step_fetched (map (λ b. (goal.Analyzer-dyn g (b.vtable, b.value)).kind b.value) c.args.kit.now.objects.items) v (g.met.H.Host.sound c.args.host.now) (memory_of parts) piece c.prepare.new.reply c.reply_refusal-in-Fetch.new.reply _ c.requires.ready has.asked prepared.1
+    step_fetched (map (λ b. (goal.Analyzer-dyn g (b.vtable, b.value)).kind b.value) c.args.kit.now.objects.items) v (g.met.H.Host.sound c.args.host.now) parts piece c.prepare.new.reply c.reply_refusal-in-Fetch.new.reply _ c.requires.ready has.asked prepared.1
     c.in-Fetch.asked has.prepares c.in_ok-reply_refusal-in-Fetch.ensures.reply c.in_ok-reply_refusal-in-Fetch.ensures.outcome
 
 pub returns-in_err-reply_refusal-in-Close-clause-steps : goal.returns-in_err-reply_refusal-in-Close-clause-steps
 returns-in_err-reply_refusal-in-Close-clause-steps g c =
     let p = err_from_is_err_and c.from_residual-in_err-reply_refusal-in-Close.result c.from_residual-in_err-reply_refusal-in-Close.ensures.1 in
-    rw (p.1, p.2) (step_full (map (λ b. (goal.Analyzer-dyn g (b.vtable, b.value)).kind b.value) c.args.kit.now.objects.items) (g.H.Host.view c.args.host.now) (g.met.H.Host.sound c.args.host.now) (memory_of c.args.parts.now) (piece_of c.args.end c.args.piece.now) c.reply_refusal-in-Close.new.reply)
+    rw (p.1, p.2) (step_full (map (λ b. (goal.Analyzer-dyn g (b.vtable, b.value)).kind b.value) c.args.kit.now.objects.items) (g.H.Host.view c.args.host.now) (g.met.H.Host.sound c.args.host.now) c.args.parts.now (piece_of c.args.end c.args.piece.now) c.reply_refusal-in-Close.new.reply)
 
 pub returns-in_ok-reply_refusal-in-Close-clause-steps : goal.returns-in_ok-reply_refusal-in-Close-clause-steps
 returns-in_ok-reply_refusal-in-Close-clause-steps g c =
@@ -377,5 +377,5 @@ returns-in_ok-reply_refusal-in-Close-clause-steps g c =
     let all : HasPrepared parts piece c.prepare.new.reply c.in_ok-outcome.field-0 = record { asked = e.asked; prepares = e.prepares; timeless = e.timeless; selects = e.selects } in
     let has = subst (HasPrepared parts piece c.prepare.new.reply) c.in-Close.is all in
     let prepared = has.timeless tt (blank v parts c.requires.ready) (blank_definitions v parts c.requires.ready) in
-    step_closed (map (λ b. (goal.Analyzer-dyn g (b.vtable, b.value)).kind b.value) c.args.kit.now.objects.items) v (g.met.H.Host.sound c.args.host.now) (memory_of parts) piece c.prepare.new.reply c.reply_refusal-in-Close.new.reply _ c.requires.ready has.asked prepared.1
+    step_closed (map (λ b. (goal.Analyzer-dyn g (b.vtable, b.value)).kind b.value) c.args.kit.now.objects.items) v (g.met.H.Host.sound c.args.host.now) parts piece c.prepare.new.reply c.reply_refusal-in-Close.new.reply _ c.requires.ready has.asked prepared.1
     c.in-Close.cursor has.prepares c.in_ok-reply_refusal-in-Close.ensures.reply c.in_ok-reply_refusal-in-Close.ensures.outcome

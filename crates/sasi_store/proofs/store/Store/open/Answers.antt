@@ -1,7 +1,7 @@
 use Rattle.std.proofs.Common.{map, refl, subst, sym}
 use Rattle.std.proofs.lemmas.Result.{err_from_is_err_and}
 use Rattle.sasi_layout.specs.Classes.{KnowsClasses}
-use Rattle.sasi_layout.specs.Serving.{Serves, StoreInMemory, known_in_memory}
+use Rattle.sasi_layout.specs.Serving.{CanChange, Serves, StoreInMemory, known_in_memory}
 use Rattle.sasi_machine.specs.Prepares.{IsStateOf}
 use Rattle.sasi_model.specs.State.{State}
 use Rattle.sasi_recover.specs.OpenedFolder.{opened_store}
@@ -14,8 +14,13 @@ returns-in_err-opened-clause-reports g c =
     let p = err_from_is_err_and c.from_residual.result c.from_residual.ensures.1 in
     rw (p.1, p.2) (reports_on c.args.asked (map (λ b. (goal.Analyzer-dyn g (b.vtable, b.value)).kind b.value) c.args.kit.now.objects.items) (g.H.Host.view c.args.host.now) c.in_err-opened.field-0.0 c.in_err-opened.ensures.reports)
 
-pub invariant_of-result : goal.invariant_of-result
-invariant_of-result g c = (λ usable. c.in-Ok.ensures.parts, new_counted c.new.result c.new.ensures)
+pub returns-clause-ready : goal.returns-clause-ready
+returns-clause-ready g c = record {
+  memory = subst (CanChange (g.H.Host.view c.open.new.host)) (sym c.in-Ok.ensures.memory) c.in_ok-opened.ensures.ready;
+  usable = refl;
+  parts = c.in-Ok.ensures.parts;
+  none_out = new_counted c.new.result c.new.ensures;
+}
 
 pub returns-clause-serves : goal.returns-clause-serves
 returns-clause-serves g c folder l files shape =
