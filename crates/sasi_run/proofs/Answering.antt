@@ -27,11 +27,11 @@ use Rattle.sasi_machine.specs.Outcome.{outcome_of}
 use Rattle.sasi_machine.specs.Prepares.{IsStateOf}
 use Rattle.sasi_recover.specs.OpenedFolder.{AnyFolderChange}
 use Rattle.sasi_store.specs.Answers.{Answered, AnsweredButRows}
-use Rattle.sasi_store.specs.Faults.{OnMissing, OnSpent, OnStepDamage}
+use Rattle.sasi_tables.specs.Faults.{OnMissing, OnSpent, OnStepDamage}
 use Rattle.sasi_store.specs.StoreView.{IsReady, store_memory}
 use Rattle.sasi_store.specs.declared.store.Store.{Store}
-use Rattle.sasi_store.specs.declared.fault.StepFault.{StepFault}
-use Rattle.sasi_store.specs.declared.fault.StepFault.TheVariants as fault
+use Rattle.sasi_tables.specs.declared.fault.StepFault.{StepFault}
+use Rattle.sasi_tables.specs.declared.fault.StepFault.TheVariants as fault
 use Rattle.sasi_run.specs.EmitCounts.{emits_of}
 use Rattle.sasi_run.specs.Crashing.{AnswersCrashSafe, CrashLeavesPieces, EmittedButStored, FailsCrashSafe, FeedsCrashSafe, FinishesCrashSafe, IsOfState, LacksAtStop, RanPieces, StoppedPieces, StopsCrashSafe}
 use Rattle.sasi_run.specs.FileCalls.{emits_after}

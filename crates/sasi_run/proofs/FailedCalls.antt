@@ -8,9 +8,9 @@ use Rattle.sasi_folder.specs.Damages.{FolderShows}
 use Rattle.sasi_recover.specs.Faults.{OpenCauses}
 use Rattle.sasi_recover.specs.declared.fault.OpenFault.{OpenFault}
 use Rattle.sasi_recover.specs.declared.fault.OpenFault.TheVariants as open_fault
-use Rattle.sasi_store.specs.Faults.{OnStepDamage, StepCauses}
-use Rattle.sasi_store.specs.declared.fault.StepFault.{StepFault}
-use Rattle.sasi_store.specs.declared.fault.StepFault.TheVariants as step_fault
+use Rattle.sasi_tables.specs.Faults.{OnStepDamage, StepCauses}
+use Rattle.sasi_tables.specs.declared.fault.StepFault.{StepFault}
+use Rattle.sasi_tables.specs.declared.fault.StepFault.TheVariants as step_fault
 use Rattle.sasi_run.specs.declared.session.Stop.{Stop}
 use Rattle.sasi_run.specs.declared.session.Stop.TheVariants.{Disk, Memory, Output, Corrupt, Spent, Missing}
 use Rattle.sasi_run.specs.declared.status.Status.{Status}

@@ -23,8 +23,8 @@ use Rattle.sasi_layout.specs.Spent.{spent}
 use Rattle.sasi_layout.specs.Statements.{known_in}
 use Rattle.sasi_store.specs.Worlds.{World, steps}
 use Rattle.sasi_run.specs.Needs.{class_asked}
-use Rattle.sasi_store.specs.declared.fault.StepFault.{StepFault}
-use Rattle.sasi_store.specs.declared.fault.StepFault.TheVariants as step_fault
+use Rattle.sasi_tables.specs.declared.fault.StepFault.{StepFault}
+use Rattle.sasi_tables.specs.declared.fault.StepFault.TheVariants as step_fault
 use Rattle.sasi_run.specs.declared.session.Session.{Session}
 use Rattle.sasi_run.specs.declared.session.Stop.{Stop}
 use Rattle.sasi_run.specs.declared.session.Stop.TheVariants.{Output, Memory, Disk, Corrupt, Spent, Missing}

@@ -1,6 +1,6 @@
 -- What a store knows of its state without its files, at its opening and after a change.
-use Rattle.std.proofs.Common.{◌≡◌, ℕ, zero, suc, List, [], ◌∷◌, ◌++◌, Option, Result, Err, refl, sym, ap, subst, ◌∙◌}
-use Rattle.std.specs.Prelude.{OnOk, max}
+use Rattle.std.proofs.Common.{◌≡◌, ℕ, zero, suc, List, [], ◌∷◌, ◌++◌, Option, Err, refl, sym, ap, subst, ◌∙◌}
+use Rattle.std.specs.Prelude.{max}
 use Rattle.std.specs.List.{AllByRecursion}
 use Rattle.std.proofs.lemmas.List.{map-append}
 use Rattle.sasi_cells.specs.Mutations.{state_with_mutation}
@@ -22,12 +22,11 @@ use Rattle.sasi_recover.specs.declared.fault.OpenFault.{OpenFault}
 use Rattle.sasi_types.specs.declared.class.Class.{Class}
 use Rattle.sasi_types.specs.declared.decorated_key.DecoratedKey.{DecoratedKey}
 use Rattle.sasi_types.specs.declared.partitioner.Partitioner.{Partitioner}
-use Rattle.sasi_store.specs.MakesMoves.{Knows}
-use Rattle.sasi_store.specs.declared.fault.StepFault.{StepFault}
-use Rattle.sasi_store.proofs.Creating.{new_timestamp}
-use Rattle.sasi_store.proofs.Defining.{index_timestamp}
+use Rattle.sasi_tables.specs.MakesMoves.{Knows}
+use Rattle.sasi_tables.proofs.Creating.{new_timestamp}
+use Rattle.sasi_tables.proofs.Defining.{index_timestamp}
 use Rattle.sasi_store.proofs.Prepared.{blank_time, timed}
-use Rattle.sasi_store.proofs.Timestamps.{put_timestamp}
+use Rattle.sasi_tables.proofs.Timestamps.{put_timestamp}
 
 -- ---- its opening
 
@@ -54,11 +53,6 @@ known_at ds time = record { tables = ds; max_timestamp = time }
 -- it knows the state that it is of
 pub known_as : (store : StoreInMemory) (ds : List Definition) (time : ℕ) (s : State) → Knows store ds time → IsStateOf (known_at ds time) s → IsStateOf (known_in_memory store) s
 known_as store ds time s is of = of ∙ sym (λ i. known_at (is.definitions_are i) (is.timestamp_is i))
-
--- what was known before is known by other words
-pub knows_then : {T : Type 0} (store : StoreInMemory) (ds es : List Definition) (a b : ℕ) (result : Result T StepFault) → ds ≡ es → a ≡ b → OnOk result (Knows store ds a) → OnOk result (Knows store es b)
-knows_then store ds es a b result same time knows =
-    subst (λ (n : ℕ). OnOk result (Knows store es n)) time (subst (λ (l : List Definition). OnOk result (Knows store l a)) same knows)
 
 -- a new table
 pub created_state : (ds : List Definition) (time : ℕ) (s : State) (d : Definition) → IsStateOf (known_at ds time) s → IsStateOf (known_at (ds ++ d ∷ []) time) (with_new_table s d)

@@ -24,8 +24,8 @@ use Rattle.sasi_manifest.specs.ListedFiles.{is_among}
 use Rattle.sasi_manifest.specs.ListedTables.{listed}
 use Rattle.sasi_memindex.specs.Book.{Book}
 use Rattle.sasi_memtable.specs.MemtableView.{MemtableView}
-use Rattle.sasi_store.specs.Held.{in_memory}
-use Rattle.sasi_store.specs.Held.{HeldTable}
+use Rattle.sasi_tables.specs.Held.{in_memory}
+use Rattle.sasi_tables.specs.Held.{HeldTable}
 use Rattle.sasi_schema.specs.Defined.{definition}
 use Rattle.sasi_layout.specs.Serving.{AreStorable, CanChange, IsTableReady}
 use Rattle.sasi_sources.specs.KeyCandidates.{HasKeyType}
@@ -41,12 +41,12 @@ use Rattle.sasi_plan.specs.declared.plan.PlanSource.{PlanSource}
 use Rattle.sasi_plan.specs.declared.plan.PlanSource.TheVariants.{Nothing, OfKey, OfTable}
 use Rattle.sasi_plan.proofs.PlanLaws.{all_numbered, relations_words}
 use Rattle.sasi_store.specs.Selects.{IsPlanFor}
-use Rattle.sasi_store.specs.StoreView.{IsOfParts, held_in, memory_of}
-use Rattle.sasi_store.specs.ViewParts.{current_parts}
-use Rattle.sasi_store.specs.declared.parts.Parts.{Parts}
-use Rattle.sasi_store.proofs.FlushingParts.{memory_at, table_at}
-use Rattle.sasi_store.proofs.Putting.{has_table}
-use Rattle.sasi_store.proofs.TablesInMemory.{all_push, map_there, ready_at}
+use Rattle.sasi_tables.specs.TablesView.{IsOfParts, held_in, memory_of}
+use Rattle.sasi_tables.specs.ViewParts.{current_parts}
+use Rattle.sasi_tables.specs.declared.parts.Parts.{Parts}
+use Rattle.sasi_tables.proofs.FlushingParts.{memory_at, table_at}
+use Rattle.sasi_tables.proofs.Putting.{has_table}
+use Rattle.sasi_tables.proofs.TablesInMemory.{all_push, map_there, ready_at}
 use Rattle.sasi_store.proofs.ViewWorlds.{IsIndexedBy, among_numbered, view_finds, view_memtables}
 
 -- ---- the indexes of relations

@@ -40,7 +40,7 @@ use Rattle.sasi_model.specs.State.{Definition, State, definition_of, max_timesta
 use Rattle.sasi_model.specs.Step.{primary_key}
 use Rattle.sasi_model.specs.Stored.{IsBodyOf}
 use Rattle.sasi_model.specs.WellFormed.{IsWellFormed}
-use Rattle.sasi_store.specs.Held.{in_memory}
+use Rattle.sasi_tables.specs.Held.{in_memory}
 use Rattle.sasi_schema.proofs.Indexed.{number_within}
 use Rattle.sasi_schema.proofs.Keys.{types_are}
 use Rattle.sasi_schema.proofs.NewIndexes.{stands_at_number}
@@ -53,14 +53,14 @@ use Rattle.sasi_types.specs.declared.column.ColumnType.{ColumnType}
 use Rattle.sasi_types.specs.declared.partitioner.Partitioner.{Partitioner}
 use Rattle.sasi_types.specs.declared.statement.Statement.{Statement}
 use Rattle.sasi_types.specs.declared.statement.Statement.TheVariants.{CreateIndex, CreateTable}
-use Rattle.sasi_store.specs.Puts.{HasTableFor}
+use Rattle.sasi_tables.specs.Puts.{HasTableFor}
 use Rattle.sasi_store.specs.Selects.{IsSelectable}
-use Rattle.sasi_store.specs.StoreView.{held_in, memory_of}
-use Rattle.sasi_store.specs.Writable.{IsCreatable, IsDefinable, IsWritableMutation}
-use Rattle.sasi_store.specs.declared.parts.Parts.{Parts}
+use Rattle.sasi_tables.specs.TablesView.{held_in, memory_of}
+use Rattle.sasi_tables.specs.Writable.{IsCreatable, IsDefinable, IsWritableMutation}
+use Rattle.sasi_tables.specs.declared.parts.Parts.{Parts}
 use Rattle.sasi_machine.proofs.StatementPreparing.{empty_definitions}
-use Rattle.sasi_store.proofs.TablesInMemory.{as_many, map_there}
-use Rattle.sasi_store.proofs.Timestamps.{put_timestamp}
+use Rattle.sasi_tables.proofs.TablesInMemory.{as_many, map_there}
+use Rattle.sasi_tables.proofs.Timestamps.{put_timestamp}
 
 numbers_within : (high : ℕ) (ts : List ListedDefinition) → AllByRecursion (HasIndexesNumbered high) ts → AllByRecursion (λ (t : ListedDefinition). AllByRecursion (λ (n : ℕ). n ≤ high) t.numbers) ts
 numbers_within high [] all = tt

@@ -53,12 +53,12 @@ use Rattle.sasi_plan.specs.declared.plan.PlanSource.TheVariants.{Nothing, OfKey,
 use Rattle.sasi_plan.proofs.PlanLaws.{relations_asked}
 use Rattle.sasi_fetch.specs.Printing.{picked_lines, row_picked}
 use Rattle.sasi_store.specs.Selects.{AreShortFor, AreShortIn, HasShortFiles, IsPlanFor, asked_reads, conditions_on, rows_reads, selection_reads, unindexed_reads}
-use Rattle.sasi_store.specs.StoreView.{IsOfParts, memory_of}
-use Rattle.sasi_store.specs.Tables.{content_of}
+use Rattle.sasi_tables.specs.TablesView.{IsOfParts, memory_of}
+use Rattle.sasi_tables.specs.Tables.{content_of}
 use Rattle.sasi_store.specs.Worlds.{selection_checks}
-use Rattle.sasi_store.specs.ViewParts.{current_parts, listed_parts, table_numbers}
-use Rattle.sasi_store.specs.declared.parts.Parts.{Parts}
-use Rattle.sasi_store.proofs.TablesInMemory.{map_there, seen_as}
+use Rattle.sasi_tables.specs.ViewParts.{current_parts, listed_parts, table_numbers}
+use Rattle.sasi_tables.specs.declared.parts.Parts.{Parts}
+use Rattle.sasi_tables.proofs.TablesInMemory.{map_there, seen_as}
 use Rattle.sasi_store.proofs.ViewFiles.{view_files}
 use Rattle.sasi_store.proofs.ViewWorlds.{files_first, merged_table, own_indexes, view_planned, view_tokens, view_world}
 

@@ -27,14 +27,14 @@ use Rattle.sasi_plan.specs.Plans.{IsAskedOf, IsSourceOf, PlanView}
 use Rattle.sasi_schema.specs.Defined.{definition}
 use Rattle.sasi_types.specs.declared.class.Class.{Class}
 use Rattle.sasi_types.specs.declared.partitioner.Partitioner.{Partitioner}
-use Rattle.sasi_store.specs.Faults.{OnStepDamage, fault_of_read}
-use Rattle.sasi_store.specs.Held.{held_by}
+use Rattle.sasi_tables.specs.Faults.{OnStepDamage, fault_of_read}
+use Rattle.sasi_tables.specs.Held.{held_by}
 use Rattle.sasi_store.specs.Selects.{IsPlanFor, IsSelectable}
-use Rattle.sasi_store.specs.StoreView.{memory_of}
-use Rattle.sasi_store.specs.declared.parts.Parts.{Parts}
-use Rattle.sasi_store.proofs.KnownClasses.{known_at, no_index_lacks}
-use Rattle.sasi_store.proofs.Putting.{has_table}
-use Rattle.sasi_store.proofs.TablesInMemory.{index_got, map_there, seen_as, there_inside}
+use Rattle.sasi_tables.specs.TablesView.{memory_of}
+use Rattle.sasi_tables.specs.declared.parts.Parts.{Parts}
+use Rattle.sasi_tables.proofs.KnownClasses.{known_at, no_index_lacks}
+use Rattle.sasi_tables.proofs.Putting.{has_table}
+use Rattle.sasi_tables.proofs.TablesInMemory.{index_got, map_there, seen_as, there_inside}
 
 -- ---- faults
 

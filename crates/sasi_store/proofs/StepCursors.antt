@@ -20,8 +20,8 @@ use Rattle.sasi_model.specs.State.{State}
 use Rattle.sasi_types.specs.declared.class.Class.{Class}
 use Rattle.sasi_types.specs.declared.statement.Statement.TheVariants.{OpenCursor}
 use Rattle.sasi_store.specs.Steps.{StepPromises}
-use Rattle.sasi_store.specs.StoreView.{memory_of}
-use Rattle.sasi_store.specs.declared.parts.Parts.{Parts}
+use Rattle.sasi_tables.specs.TablesView.{memory_of}
+use Rattle.sasi_tables.specs.declared.parts.Parts.{Parts}
 use Rattle.sasi_store.specs.declared.session_state.SessionState.{SessionState as StoreSession}
 use Rattle.sasi_store.proofs.Stepping.{step_ruled}
 

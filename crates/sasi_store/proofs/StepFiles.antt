@@ -18,9 +18,9 @@ use Rattle.sasi_types.specs.declared.class.Class.{Class}
 use Rattle.sasi_types.specs.declared.statement.Statement.{Statement}
 use Rattle.sasi_types.specs.declared.statement.Statement.TheVariants.{ShowFiles}
 use Rattle.sasi_store.specs.Steps.{StepPromises}
-use Rattle.sasi_store.specs.StoreView.{memory_of}
+use Rattle.sasi_tables.specs.TablesView.{memory_of}
 use Rattle.sasi_store.specs.Worlds.{HasNoCursor, file_texts, told_in}
-use Rattle.sasi_store.specs.declared.parts.Parts.{Parts}
+use Rattle.sasi_tables.specs.declared.parts.Parts.{Parts}
 use Rattle.sasi_store.specs.declared.session_state.SessionState.{SessionState as StoreSession}
 use Rattle.sasi_store.proofs.Stepping.{state_is, step_quiet, turn_taken}
 

@@ -46,20 +46,20 @@ use Rattle.sasi_model.specs.Sessions.{CheckedTail, NoTail, SessionState, Tail, T
 use Rattle.sasi_model.specs.State.{Definition, State, max_timestamp}
 use Rattle.sasi_model.specs.Step.{step}
 use Rattle.sasi_store.specs.Answers.{AnsweredButRows}
-use Rattle.sasi_store.specs.Faults.{OnMissing, OnSpent, OnStepDamage, StepCauses, fault_of_kit}
-use Rattle.sasi_store.proofs.KnownClasses.{no_table_lacks}
+use Rattle.sasi_tables.specs.Faults.{OnMissing, OnSpent, OnStepDamage, StepCauses, fault_of_kit}
+use Rattle.sasi_tables.proofs.KnownClasses.{no_table_lacks}
 use Rattle.sasi_schema.specs.Numbers.{number_of_table}
-use Rattle.sasi_store.specs.MakesMoves.{MakesMoves}
+use Rattle.sasi_tables.specs.MakesMoves.{MakesMoves}
 use Rattle.sasi_store.specs.Selects.{HasShortFiles, HasShortRows, HasShortTable, select_reads, selection_reads}
 use Rattle.sasi_store.specs.Steps.{StepPromises}
-use Rattle.sasi_store.specs.StoreView.{memory_of}
+use Rattle.sasi_tables.specs.TablesView.{memory_of}
 use Rattle.sasi_store.specs.Worlds.{HasNoCursor, PartsServe, World, piece_checks, rows_tail, selection_checks, steps, told_in}
-use Rattle.sasi_store.specs.declared.fault.StepFault.{StepFault}
-use Rattle.sasi_store.specs.declared.fault.StepFault.TheVariants as fault
-use Rattle.sasi_store.specs.declared.parts.Parts.{Parts}
+use Rattle.sasi_tables.specs.declared.fault.StepFault.{StepFault}
+use Rattle.sasi_tables.specs.declared.fault.StepFault.TheVariants as fault
+use Rattle.sasi_tables.specs.declared.parts.Parts.{Parts}
 use Rattle.sasi_store.specs.declared.session_state.SessionState.{SessionState as StoreSession}
-use Rattle.sasi_store.proofs.ListedFrames.{same_stays}
-use Rattle.sasi_store.proofs.MoveCauses.{any_change, none_made}
+use Rattle.sasi_tables.proofs.ListedFrames.{same_stays}
+use Rattle.sasi_tables.proofs.MoveCauses.{any_change, none_made}
 
 -- ---- a world and its state
 

@@ -38,11 +38,11 @@ use Rattle.sasi_engine.specs.Plans.{IsShownIn, is_file_of, of_data, of_hits, of_
 use Rattle.sasi_plan.specs.Plans.{PlanView}
 use Rattle.sasi_plan.specs.Reading.{PendingShows}
 use Rattle.sasi_store.specs.Selects.{IsPlanFor}
-use Rattle.sasi_store.specs.StoreView.{memory_of}
-use Rattle.sasi_store.specs.ViewParts.{current_parts, table_numbers}
-use Rattle.sasi_store.specs.declared.parts.Parts.{Parts}
+use Rattle.sasi_tables.specs.TablesView.{memory_of}
+use Rattle.sasi_tables.specs.ViewParts.{current_parts, table_numbers}
+use Rattle.sasi_tables.specs.declared.parts.Parts.{Parts}
 use Rattle.sasi_store.proofs.SelectWorlds.{files_back}
-use Rattle.sasi_store.proofs.TablesInMemory.{there_inside}
+use Rattle.sasi_tables.proofs.TablesInMemory.{there_inside}
 use Rattle.sasi_store.proofs.ViewFiles.{view_files, view_listed, view_there}
 
 -- ---- lists

@@ -1,8 +1,7 @@
 -- The parts of a view: their files are there, and none is listed twice.
-use Rattle.std.proofs.Common.{◌≡◌, ◌≢◌, ℕ, zero, suc, ◌+◌, ◌-◌, ◌<◌, ◌≤◌, ◌||◌, Bool, true, false, if◌then◌else◌, nat_eq, List, [], ◌∷◌, ◌++◌, map, slice_get, Option, None, Some, refl, sym, ap, ap₂, subst, ◌∙◌, arith, append_assoc}
+use Rattle.std.proofs.Common.{◌≡◌, ◌≢◌, ℕ, zero, suc, ◌+◌, ◌-◌, ◌<◌, ◌≤◌, ◌||◌, Bool, true, false, if◌then◌else◌, nat_eq, List, [], ◌∷◌, ◌++◌, map, slice_get, Option, None, Some, refl, sym, ap, subst, ◌∙◌, arith}
 use Rattle.std.proofs.lemmas.Bool.Decides.{nat_tests}
 use Rattle.std.proofs.lemmas.Bool.{or_left, or_right}
-use Rattle.std.proofs.lemmas.List.{map-append}
 use Rattle.std.specs.List.{AllByRecursion, list_any}
 use Rattle.std.specs.Option.{option_map_or}
 use Rattle.sasi_host.specs.declared.name.FileName.{FileName}
@@ -27,15 +26,15 @@ use Rattle.sasi_views.specs.declared.part.Part as view
 use Rattle.sasi_views.specs.declared.part.Part.TheVariants as view_part
 use Rattle.sasi_views.specs.Parts.{ListsOnce, components_of, part_components}
 use Rattle.sasi_engine.specs.Plans.{is_file_of}
-use Rattle.sasi_store.specs.StoreView.{memory_of}
-use Rattle.sasi_store.specs.ViewParts.{current_parts, file_part, listed_parts, table_numbers}
-use Rattle.sasi_store.specs.Held.{Rise, numbers_of}
-use Rattle.sasi_store.specs.StoreView.{IsOfParts}
-use Rattle.sasi_store.specs.declared.table_maps.TableMaps.{TableMaps}
+use Rattle.sasi_tables.specs.TablesView.{memory_of}
+use Rattle.sasi_tables.specs.ViewParts.{current_parts, file_part, listed_parts, table_numbers}
+use Rattle.sasi_tables.specs.Held.{Rise, numbers_of}
+use Rattle.sasi_tables.specs.TablesView.{IsOfParts}
+use Rattle.sasi_tables.specs.declared.table_maps.TableMaps.{TableMaps}
 use Rattle.std.specs.declared.cmp.Ordering.{Ordering}
 use Rattle.std.specs.declared.cmp.Ordering.TheVariants.{Less, Equal, Greater}
 use Rattle.std.specs.Ordering.{is_eq, nat_cmp}
-use Rattle.sasi_store.specs.declared.parts.Parts.{Parts}
+use Rattle.sasi_tables.specs.declared.parts.Parts.{Parts}
 
 -- ---- the files of a table
 
@@ -66,17 +65,6 @@ maps_no_files (n ∷ ns) name = maps_no_files ns name
 pub view_files : (fs : List ListedFile) (ns : List ℕ) (name : FileName) → is_file_of (listed_parts fs ns) name ≡ have_name fs name
 view_files [] ns name = maps_no_files ns name
 view_files (f ∷ fs) ns name = ap (λ b. is_name_of f name || b) (view_files fs ns name)
-
--- **Data files, then the frozen maps of a table, and then its memtable, are its current parts.**
-pub parts_listed : (p : Parts) (number : ℕ) (x : TableMaps) → slice_get p.tables.items (number - 1) ≡ Some x → (files : List view.Part) → files ≡ map file_part (files_of p.manifest.listing.tables number)
-    → (frozen : List ℕ) → frozen ≡ x.frozen → (older : List view.Part) → older ≡ files ++ map (λ n. view_part.Map n) frozen → (all : List view.Part) → all ≡ older ++ view_part.Map x.memtable ∷ [] → all ≡ current_parts p number
-parts_listed p number x there files files_are frozen frozen_are older older_are all all_are =
-    let listed : List view.Part = map file_part (files_of p.manifest.listing.tables number) in
-    all_are
-    ∙ ap (λ (l : List view.Part). l ++ view_part.Map x.memtable ∷ []) (older_are ∙ ap₂ (λ (l : List view.Part) (ns : List ℕ). l ++ map (λ n. view_part.Map n) ns) files_are frozen_are)
-    ∙ append_assoc listed (map (λ n. view_part.Map n) x.frozen) (view_part.Map x.memtable ∷ [])
-    ∙ ap (λ (l : List view.Part). listed ++ l) (sym (map-append (λ n. view_part.Map n) x.frozen (x.memtable ∷ [])))
-    ∙ ap (λ (o : Option TableMaps). listed_parts (files_of p.manifest.listing.tables number) (option_map_or numbers_of o [])) (sym there)
 
 -- ---- how often a component is listed
 

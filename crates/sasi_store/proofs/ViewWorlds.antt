@@ -29,7 +29,7 @@ use Rattle.sasi_scan.proofs.KeyLookups.{parts_are, parts_decorated}
 use Rattle.sasi_layout.specs.Layout.{File, Layout, TableParts, listed_of, table_of, unflushed}
 use Rattle.sasi_layout.specs.Serving.{CanChange, Serves, TableInMemory, table_in_memory}
 use Rattle.sasi_layout.specs.Shape.{HasFile}
-use Rattle.sasi_store.specs.Held.{HeldTable, in_memory as held_memory, map_in, maps_with, numbers_of, unflushed_maps}
+use Rattle.sasi_tables.specs.Held.{HeldTable, in_memory as held_memory, map_in, maps_with, numbers_of, unflushed_maps}
 use Rattle.sasi_views.specs.declared.part.Part as view
 use Rattle.sasi_views.specs.declared.part.Part.TheVariants as view_part
 use Rattle.sasi_candidates.specs.Costs.{files_of}
@@ -46,18 +46,18 @@ use Rattle.sasi_engine.specs.Findable as found
 use Rattle.sasi_engine.specs.Findable.{HasIndexFor}
 use Rattle.sasi_engine.specs.Findable.{CanFind}
 use Rattle.sasi_scan.specs.Numbered.{views_numbered}
-use Rattle.sasi_store.specs.Held.{HasIndexes, IsIndexed, Subject, held_by, subject_in, subjects_of}
-use Rattle.sasi_store.specs.StoreView.{IsOfParts, held_in, memory_of, wanted_of}
-use Rattle.sasi_store.specs.ViewParts.{current_parts, file_part, listed_parts, table_numbers}
-use Rattle.sasi_store.specs.declared.parts.Parts.{Parts}
-use Rattle.sasi_store.specs.declared.table_maps.TableMaps.{TableMaps}
-use Rattle.sasi_store.proofs.HeldMaps.{first_in, in_all, later_in, mapped_there, one_there, unflushed_numbers}
-use Rattle.sasi_store.proofs.Unflushed.{storable_decorated}
+use Rattle.sasi_tables.specs.Held.{HasIndexes, IsIndexed, Subject, held_by, subject_in, subjects_of}
+use Rattle.sasi_tables.specs.TablesView.{IsOfParts, held_in, memory_of, wanted_of}
+use Rattle.sasi_tables.specs.ViewParts.{current_parts, file_part, listed_parts, table_numbers}
+use Rattle.sasi_tables.specs.declared.parts.Parts.{Parts}
+use Rattle.sasi_tables.specs.declared.table_maps.TableMaps.{TableMaps}
+use Rattle.sasi_tables.proofs.HeldMaps.{first_in, in_all, later_in, mapped_there, one_there, unflushed_numbers}
+use Rattle.sasi_tables.proofs.Unflushed.{storable_decorated}
 use Rattle.sasi_layout.specs.Serving.{AreStorable}
 use Rattle.sasi_types.specs.declared.column.ColumnType.{ColumnType}
 use Rattle.std.specs.Prelude.{Contains}
 use Rattle.std.proofs.lemmas.List.{map-append}
-use Rattle.sasi_store.proofs.TablesInMemory.{all_at, all_push, inside_there, map_there, ready_in_memory, seen_as, shaped_at, there_inside}
+use Rattle.sasi_tables.proofs.TablesInMemory.{all_at, all_push, inside_there, map_there, ready_in_memory, seen_as, shaped_at, there_inside}
 
 -- ---- the parts of a table
 

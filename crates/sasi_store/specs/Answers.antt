@@ -14,9 +14,9 @@ use Rattle.sasi_model.specs.Sessions.{SessionState, refused_by, session_by, turn
 use Rattle.sasi_model.specs.State.{State}
 use Rattle.sasi_model.specs.Step.{step}
 use Rattle.sasi_types.specs.declared.statement.Statement.TheVariants.{Fetch, ShowFiles, Trace}
-use Rattle.sasi_store.specs.StoreView.{memory_of}
+use Rattle.sasi_tables.specs.TablesView.{memory_of}
 use Rattle.sasi_store.specs.Worlds.{HasNoCursor, PartsServe, World, steps}
-use Rattle.sasi_store.specs.declared.parts.Parts.{Parts}
+use Rattle.sasi_tables.specs.declared.parts.Parts.{Parts}
 use Rattle.sasi_store.specs.declared.session_state.SessionState.{SessionState as StoreSession}
 
 -- The parts and the session serve the world after the piece, the reply is that of the world's step, the outcome that of the model's turn, and no number that the piece needs is spent.

@@ -32,8 +32,8 @@ use Rattle.sasi_candidates.specs.Costs.{cost}
 use Rattle.sasi_candidates.specs.LayoutParts.{parts_of}
 use Rattle.sasi_engine.specs.Asked.{Asked, asked_of}
 use Rattle.sasi_plan.specs.Plans.{IsAskedOf, IsSourceOf, PlanView}
-use Rattle.sasi_store.specs.Tables.{file_contents}
-use Rattle.sasi_store.specs.declared.parts.Parts.{Parts}
+use Rattle.sasi_tables.specs.Tables.{file_contents}
+use Rattle.sasi_tables.specs.declared.parts.Parts.{Parts}
 
 -- the table of the rows is there, and the SELECT isn't refused on it
 pub record IsSelectable (store : StoreInMemory) (rows : Selection) : Type 0 where

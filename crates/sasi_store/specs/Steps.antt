@@ -18,13 +18,13 @@ use Rattle.sasi_model.specs.Sessions.{SessionState}
 use Rattle.sasi_model.specs.State.{State}
 use Rattle.sasi_recover.specs.OpenedFolder.{AnyFolderChange}
 use Rattle.sasi_store.specs.Answers.{Answered, AnsweredButRows}
-use Rattle.sasi_store.specs.Faults.{OnMissing, OnSpent, OnStepDamage, StepCauses}
-use Rattle.sasi_store.specs.Frames.{KeepsFilesOf, KeepsListed}
+use Rattle.sasi_tables.specs.Faults.{OnMissing, OnSpent, OnStepDamage, StepCauses}
+use Rattle.sasi_tables.specs.Frames.{KeepsFilesOf, KeepsListed}
 use Rattle.sasi_store.specs.Selects.{HasShortRows, select_reads}
-use Rattle.sasi_store.specs.StoreView.{memory_of}
+use Rattle.sasi_tables.specs.TablesView.{memory_of}
 use Rattle.sasi_store.specs.Worlds.{HasNoCursor, PartsServe, World, steps}
-use Rattle.sasi_store.specs.declared.fault.StepFault.{StepFault}
-use Rattle.sasi_store.specs.declared.parts.Parts.{Parts}
+use Rattle.sasi_tables.specs.declared.fault.StepFault.{StepFault}
+use Rattle.sasi_tables.specs.declared.parts.Parts.{Parts}
 use Rattle.sasi_store.specs.declared.session_state.SessionState.{SessionState as StoreSession}
 
 -- over analyzers of these classes; the parts and the session of the store before it, and after it

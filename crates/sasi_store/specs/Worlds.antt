@@ -21,8 +21,8 @@ use Rattle.sasi_candidates.specs.LayoutParts.{parts_of}
 use Rattle.sasi_print.specs.Files.{file_text}
 use Rattle.sasi_print.specs.declared.file_lines.FileState.TheVariants.{Current}
 use Rattle.sasi_store.specs.Selects.{conditions_on}
-use Rattle.sasi_store.specs.StoreView.{memory_of}
-use Rattle.sasi_store.specs.declared.parts.Parts.{Parts}
+use Rattle.sasi_tables.specs.TablesView.{memory_of}
+use Rattle.sasi_tables.specs.declared.parts.Parts.{Parts}
 use Rattle.sasi_store.specs.declared.session_state.SessionState.{SessionState as StoreSession}
 use Rattle.sasi_store.specs.declared.store.Store.{Store}
 

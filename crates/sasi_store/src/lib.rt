@@ -4,27 +4,13 @@
 //! crash leaves at each moment.
 #![tactic(auto)]
 
-mod create;
-mod define;
-mod fault;
-mod flush;
-mod flush_draws;
-mod flush_file;
-mod flush_table;
-mod freeze;
-mod merged_maps;
-mod old_segments;
-mod parts;
 mod select;
 mod session_state;
 mod show_files;
 mod step;
 mod store;
-mod table_maps;
-mod view_parts;
-mod write;
 
-pub use fault::StepFault;
 pub use sasi_layout::NumberKind;
 pub use sasi_recover::OpenFault;
+pub use sasi_tables::StepFault;
 pub use store::Store;

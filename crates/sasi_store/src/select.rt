@@ -10,16 +10,13 @@ ghost use Rattle.sasi_layout.specs.Serving.{CanChange, Serves};
 ghost use Rattle.sasi_machine.specs.Prepares.{answer_rows};
 ghost use Rattle.sasi_recheck.specs.Rows.{KnowsWhere};
 ghost use Rattle.sasi_scan.specs.Scanning.{ScanCauses};
-ghost use Rattle.sasi_store.specs.Faults.{OnMissing, OnSpent, OnStepDamage, StepCauses};
+ghost use Rattle.sasi_tables.specs.Faults.{OnMissing, OnSpent, OnStepDamage, StepCauses};
 ghost use Rattle.sasi_store.specs.Selects.{HasShortFiles, IsPlanFor, IsSelectable, selection_reads};
-ghost use Rattle.sasi_store.specs.StoreView.{HasNoneOut, IsOfParts, memory_of};
+ghost use Rattle.sasi_tables.specs.TablesView.{IsOfParts, memory_of};
+ghost use Rattle.sasi_store.specs.StoreView.{HasNoneOut};
 ghost use Rattle.sasi_store.specs.Worlds.{rows_tail, selection_checks};
 
-use crate::StepFault;
-use crate::parts::Parts;
-
 use crate::session_state::SessionState;
-use crate::view_parts::view_parts;
 use sasi_analyzers::Kit;
 use sasi_cache::Cached;
 use sasi_fetch::print_rows;
@@ -27,6 +24,7 @@ use sasi_host::{Direct, Host, PageReader, ReadFault};
 use sasi_machine::{Reply, Selection};
 use sasi_plan::{Plan, Reader};
 use sasi_print::checked;
+use sasi_tables::{Parts, StepFault, view_parts};
 use sasi_views::ViewBook;
 use std::alloc::AllocError;
 

@@ -8,11 +8,11 @@ ghost use Rattle.sasi_print.specs.declared.file_lines.FileState.TheVariants.{Cur
 ghost use Rattle.sasi_store.specs.StoreView.{HasNoneOut};
 ghost use Rattle.sasi_store.specs.Worlds.{current_texts, file_texts};
 
-use crate::parts::Parts;
 use sasi_host::FileName;
 use sasi_listing::listed_names;
 use sasi_machine::Reply;
 use sasi_print::{FileState, file_count, file_line};
+use sasi_tables::Parts;
 use sasi_views::{Component, ViewBook};
 use std::alloc::AllocError;
 

@@ -8,21 +8,17 @@ ghost use Rattle.sasi_model.specs.Sessions.{SessionState as ModelSession};
 ghost use Rattle.sasi_model.specs.State.{State};
 ghost use Rattle.sasi_store.specs.Answers.{NeedsNoFile};
 ghost use Rattle.sasi_store.specs.Steps.{StepPromises};
-ghost use Rattle.sasi_store.specs.StoreView.{HasNoneOut, IsOfParts, memory_of};
+ghost use Rattle.sasi_tables.specs.TablesView.{IsOfParts, memory_of};
+ghost use Rattle.sasi_store.specs.StoreView.{HasNoneOut};
 ghost use Rattle.sasi_store.specs.Worlds.{HasNoCursor};
 
-use crate::StepFault;
-use crate::create::create;
-use crate::define::{check_class, define};
-use crate::flush_table::flush_unless_empty;
-use crate::parts::Parts;
 use crate::select::select;
 use crate::session_state::SessionState;
 use crate::show_files::show_files;
-use crate::write::write;
 use sasi_analyzers::Kit;
 use sasi_host::Host;
 use sasi_machine::{Outcome, Prepared, Refusal, Reply, open_refusal, prepare, refuse};
+use sasi_tables::{Parts, StepFault, check_class, create, define, flush_unless_empty, write};
 use sasi_types::{PieceEnd, TableNumber};
 
 /// Answers a piece: prepares it, and makes its moves.

@@ -9,10 +9,10 @@ use Rattle.sasi_schema.specs.Defined.{definition}
 use Rattle.sasi_machine.specs.Classes.{TableLacks}
 use Rattle.sasi_machine.specs.Operands.{CanSelect}
 use Rattle.sasi_types.specs.declared.class.Class.{Class}
-use Rattle.sasi_store.proofs.KnownClasses.{never_lacks}
+use Rattle.sasi_tables.proofs.KnownClasses.{never_lacks}
 use Rattle.sasi_store.proofs.Selecting.{can_ask, none_lacks, on_damage, planned}
 use Rattle.sasi_store.proofs.Stepping.{files_before}
-use Rattle.sasi_store.specs.StoreView.{memory_of}
+use Rattle.sasi_tables.specs.TablesView.{memory_of}
 use Rattle.sasi_store.proofs.select.answer.Goals as goal
 
 pub new-requires : goal.new-requires

@@ -13,7 +13,7 @@ use Rattle.sasi_model.specs.Pieces.{piece_of}
 use Rattle.sasi_schema.specs.Defined.{definition}
 use Rattle.sasi_schema.specs.SchemaViews.{index_of_new}
 use Rattle.sasi_types.specs.declared.class.Class.{Class}
-use Rattle.sasi_store.specs.StoreView.{memory_of}
+use Rattle.sasi_tables.specs.TablesView.{memory_of}
 use Rattle.sasi_store.specs.Worlds.{rows_tail, selection_checks}
 use Rattle.sasi_store.proofs.Known.{created_state, defined_state, known_after, known_as, written_state}
 use Rattle.sasi_store.proofs.Prepared.{HasPrepared, blank, blank_definitions, creatable, definable, has_table_for, new_unindexed, selectable, writable}

@@ -1,0 +1,17 @@
+use Rattle.std.proofs.Common.{get_or, subst, sym}
+use Rattle.std.proofs.lemmas.Option.{slice_get-get_or}
+use Rattle.sasi_tables.specs.Held.{AreForgotten}
+use Rattle.sasi_tables.proofs.EachMap.{forgot_none, forgot_push, take_next}
+use Rattle.sasi_tables.proofs.table_maps.forget.Goals as goal
+
+pub loop-number-init : goal.loop-number-init
+loop-number-init c = forgot_none c.args.views.now c.args.maps.now
+
+pub loop-number-preserved : goal.loop-number-preserved
+loop-number-preserved c =
+    let at = c.loop-number in
+    let n = get_or c.args.numbers.now at.number-index 0 in
+    let there = slice_get-get_or c.args.numbers.now at.number-index 0 c.loop-number-test.true in
+    let e = c.forget_one.ensures in
+    subst (λ ns. AreForgotten c.args.views.now ns c.args.maps.now c.forget_one.new.maps) (sym (take_next c.args.numbers.now at.number-index n there))
+    (forgot_push c.args.views.now _ n c.args.maps.now at.maps at.invariant c.forget_one.new.maps e.gone e.listed)

@@ -1,0 +1,16 @@
+pub mod Faults
+pub mod Held
+pub mod TablesView
+pub mod MakesMoves
+pub mod Puts
+pub mod Writable
+pub mod Tables
+pub mod Floors
+pub mod Numbers
+pub mod FlushDraws
+pub mod Flushing
+pub mod ViewParts
+pub mod Frames
+pub mod Freezing
+pub mod Clearing
+pub mod MergedMaps
