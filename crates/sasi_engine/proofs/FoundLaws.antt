@@ -30,7 +30,7 @@ use Rattle.sasi_layout.specs.Layout.{TableParts}
 use Rattle.sasi_candidates.specs.LayoutParts.{part_of_map}
 use Rattle.sasi_candidates.specs.Parts.{Part}
 use Rattle.sasi_candidates.proofs.Hits.{memory_found}
-use Rattle.sasi_recheck.proofs.GrowthLaws.{found_before}
+use Rattle.sasi_memindex.proofs.GrowthLaws.{found_before}
 use Rattle.sasi_engine.specs.declared.relation.IndexedRelation.{IndexedRelation}
 use Rattle.sasi_engine.specs.Asked.{Asked, is_hit, keys_of}
 use Rattle.sasi_engine.specs.Views.{IsAsked, IsMapOf}

@@ -7,7 +7,7 @@ use Rattle.sasi_host.specs.View.{contents_in}
 use Rattle.sasi_memindex.specs.Book.{Book}
 use Rattle.std.specs.FinMap.{get}
 use Rattle.sasi_model.specs.Cells.{Partition}
-use Rattle.sasi_recheck.specs.Growth.{IsGrown}
+use Rattle.sasi_memindex.specs.Growth.{IsGrown}
 use Rattle.sasi_recheck.specs.Sources.{Candidate}
 use Rattle.sasi_sources.specs.Maps.{IsOneOf}
 use Rattle.sasi_engine.specs.Plans.{is_file_of, map_numbers}

@@ -18,8 +18,8 @@ use Rattle.sasi_machine.specs.TableRows.{AreStored}
 use Rattle.sasi_memindex.specs.Book.{Book, bare}
 use Rattle.sasi_memindex.specs.declared.map_part.MapPart.{MapPart}
 use Rattle.sasi_memtable.specs.MemtableView.{MemtableView}
-use Rattle.sasi_recheck.proofs.GrowthLaws.{grown_not}
-use Rattle.sasi_recheck.specs.Growth.{IsGrown}
+use Rattle.sasi_memindex.proofs.GrowthLaws.{grown_not}
+use Rattle.sasi_memindex.specs.Growth.{IsGrown}
 use Rattle.sasi_scan.specs.Numbered.{views_numbered}
 use Rattle.sasi_sources.specs.KeyCandidates.{HasKeyType}
 use Rattle.sasi_sources.specs.Maps.{IsOneOf}

@@ -1,4 +1,5 @@
 pub mod SessionTurns
+pub mod CursorTurns
 pub mod MachineTurns
 pub mod CheckSteps
 pub mod Texts

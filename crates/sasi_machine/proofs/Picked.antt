@@ -14,7 +14,7 @@ use Rattle.sasi_model.specs.State.{Column, Definition, number_of_column}
 use Rattle.sasi_model.specs.Conditions.{Condition, condition_of}
 use Rattle.sasi_model.specs.Filters.{Filter, answers, filter_of, limited, row_limit, rows, rows_up_to, where_of}
 use Rattle.sasi_model.specs.Lines.{rows_lines}
-use Rattle.sasi_model.specs.Step.{select_lines, selected_columns, value_numbered, values_numbered}
+use Rattle.sasi_model.specs.Step.{select_lines, select_rows, selected_columns, value_numbered, values_numbered}
 use Rattle.sasi_model.specs.Values.{value_stored}
 use Rattle.sasi_model.specs.Abbreviations.{count_up, numbers_of, key_type}
 use Rattle.sasi_schema.specs.Numbers.{IsKeyAt}
@@ -77,13 +77,20 @@ limited_by_numbers : (d : Definition) (numbers : List ℕ) (limit : Option ℕ) 
 limited_by_numbers d numbers None f entries at = rows_by_numbers d numbers f entries at
 limited_by_numbers d numbers (Some n) f entries at = ap (take n) (rows_by_numbers d numbers f entries at) ∙ take-map (values_numbered d numbers) n (rows f entries)
 
--- **The lines of picked rows are those of the SELECT that picks them.**
+-- **Picked rows are those of the SELECT that picks them.**
+pub selected_by_numbers : (d : Definition) (select : Select) (kind : ColumnType) (columns : List PickedColumn) (conditions : List Condition) (limit : Option ℕ) (entries : List (DecoratedKey × Partition)) → IsKeyAt d.key d.columns
+    → kind ≡ key_type d → columns ≡ map pick (selected_columns d select.columns) → conditions ≡ map (condition_of d) select.relations → limit ≡ row_limit select.limit
+    → limited limit (rows_picked kind columns (where_of conditions) entries) ≡ select_rows d select entries
+selected_by_numbers d select kind columns conditions limit entries at kind_is columns_are conditions_are limit_is =
+    ap (λ (k : ColumnType). limited limit (rows_picked k columns (where_of conditions) entries)) kind_is
+    ∙ ap (λ (cs : List PickedColumn). limited limit (rows_picked (key_type d) cs (where_of conditions) entries)) columns_are
+    ∙ ap (λ (cs : List Condition). limited limit (rows_picked (key_type d) (map pick (selected_columns d select.columns)) (where_of cs) entries)) conditions_are
+    ∙ ap (λ (o : Option ℕ). limited o (rows_picked (key_type d) (map pick (selected_columns d select.columns)) (filter_of d select.relations) entries)) limit_is
+    ∙ limited_by_numbers d (selected_columns d select.columns) (row_limit select.limit) (filter_of d select.relations) entries at
+
+-- and so are their lines
 pub lines_by_numbers : (d : Definition) (select : Select) (kind : ColumnType) (columns : List PickedColumn) (conditions : List Condition) (limit : Option ℕ) (entries : List (DecoratedKey × Partition)) → IsKeyAt d.key d.columns
     → kind ≡ key_type d → columns ≡ map pick (selected_columns d select.columns) → conditions ≡ map (condition_of d) select.relations → limit ≡ row_limit select.limit
     → rows_lines (limited limit (rows_picked kind columns (where_of conditions) entries)) ≡ select_lines d select entries
 lines_by_numbers d select kind columns conditions limit entries at kind_is columns_are conditions_are limit_is =
-    ap (λ (k : ColumnType). rows_lines (limited limit (rows_picked k columns (where_of conditions) entries))) kind_is
-    ∙ ap (λ (cs : List PickedColumn). rows_lines (limited limit (rows_picked (key_type d) cs (where_of conditions) entries))) columns_are
-    ∙ ap (λ (cs : List Condition). rows_lines (limited limit (rows_picked (key_type d) (map pick (selected_columns d select.columns)) (where_of cs) entries))) conditions_are
-    ∙ ap (λ (o : Option ℕ). rows_lines (limited o (rows_picked (key_type d) (map pick (selected_columns d select.columns)) (filter_of d select.relations) entries))) limit_is
-    ∙ ap rows_lines (limited_by_numbers d (selected_columns d select.columns) (row_limit select.limit) (filter_of d select.relations) entries at)
+    ap rows_lines (selected_by_numbers d select kind columns conditions limit entries at kind_is columns_are conditions_are limit_is)

@@ -1,5 +1,5 @@
 -- What the calls of a preparation give.
-use Rattle.std.proofs.Common.{◌≡◌, ◌++◌, ◌-◌, ◌<◌, ℕ, List, [], length, get_or, slice_get, Option, IsSome, Some, None, Result, Ok, Err, IfOk, OnOk, refl, sym, ap, subst, ◌∙◌}
+use Rattle.std.proofs.Common.{◌≡◌, ◌++◌, ◌-◌, ◌<◌, ℕ, List, [], length, get_or, slice_get, Option, IsSome, Some, None, Result, Ok, Err, IfOk, refl, sym, ap, subst, ◌∙◌}
 use Rattle.std.specs.FinMap as fin
 use Rattle.std.specs.Option.{option_map, option_map_or}
 use Rattle.std.proofs.lemmas.Option.{get_or_from_slice_get}
@@ -13,7 +13,7 @@ use Rattle.sasi_model.specs.Pieces.{Piece}
 use Rattle.sasi_model.specs.Refusals.{Bad, Known, Nothing, Refusal, RefusalRule, read}
 use Rattle.sasi_model.specs.State as model
 use Rattle.sasi_model.specs.State.{Definition, State, definition_of}
-use Rattle.sasi_model.specs.Step.{StepResult, select_lines, step, step_as, step_by}
+use Rattle.sasi_model.specs.Step.{StepResult, select_rows, step, step_as, step_by}
 use Rattle.sasi_model.specs.WellFormed.{IsWellFormedSelect}
 use Rattle.sasi_schema.specs.Answers.{IsFirstRefusal}
 use Rattle.sasi_schema.specs.Defined.{definition}
@@ -21,7 +21,7 @@ use Rattle.sasi_schema.specs.Numbers.{number_of_table}
 use Rattle.sasi_schema.specs.declared.table.Table.{Table}
 use Rattle.sasi_machine.specs.Operands.{CanSelect}
 use Rattle.sasi_machine.specs.Outcome.{outcome_of}
-use Rattle.sasi_machine.specs.Prepares.{HasRows, IsPrepared, IsStateOf, Prepares, StepsTo, answer_rows}
+use Rattle.sasi_machine.specs.Prepares.{HasRows, IsPrepared, IsStateOf, Prepares, StepsTo, rows_asked}
 use Rattle.sasi_machine.specs.Selections.{PreparesRows}
 use Rattle.sasi_machine.specs.StatementSteps.{IsRefused}
 use Rattle.sasi_machine.specs.TableRows.{AreStored}
@@ -93,7 +93,7 @@ pub record HasRowsAt (ds : List Definition) (cs : List MemtableView) (s : State)
   pub inside : rows.table - 1 < length cs
   pub some : 0 < rows.table
   pub stored : AreStored (key_type definition) memtable.partitions
-  pub answer : answer_rows s rows ≡ select_lines definition rows.select (fin.entries memtable.partitions)
+  pub rows_are : rows_asked s rows ≡ select_rows definition rows.select (fin.entries memtable.partitions)
 
 pub rows_at : (p : Partitioner) (ds : List Definition) (cs : List MemtableView) (g : ℕ) (s : State) (rows : Selection) → state_of p ds cs ≡ s → IsMachineState p ds cs g → HasRows s rows → HasRowsAt ds cs s rows
 rows_at p ds cs g s rows is kept has =
@@ -110,16 +110,12 @@ rows_at p ds cs g s rows is kept has =
       inside = memtable_inside cs (rows.table - 1) held.0 held.1;
       some = has.some;
       stored = held.2;
-      answer = ap (λ (o : Option model.Table). option_map_or (λ t. select_lines t.definition rows.select (fin.entries t.partitions)) o []) has.there
-          ∙ ap (λ (m : Partitions). select_lines has.table.definition rows.select (fin.entries m)) held.3;
+      rows_are = ap (λ (o : Option model.Table). option_map_or (λ t. select_rows t.definition rows.select (fin.entries t.partitions)) o []) has.there
+          ∙ ap (λ (m : Partitions). select_rows has.table.definition rows.select (fin.entries m)) held.3;
     }
 
 pub read_at : (cs : List MemtableView) (at : ℕ) (c x : MemtableView) → slice_get cs at ≡ Some x → c ≡ get_or cs at c → c ≡ x
 read_at cs at c x got is = is ∙ get_or_from_slice_get cs at x c got
-
-pub ok_same : {T E X : Type 0} (result : Result T E) (a b c : X) → OnOk result (a ≡ b) → b ≡ c → OnOk result (a ≡ c)
-ok_same (Ok y) a b c is on = is ∙ on
-ok_same (Err e) a b c is on = tt
 
 pub one_definition : (d e : Definition) → Some d ≡ Some e → d ≡ e
 one_definition d e same = cc

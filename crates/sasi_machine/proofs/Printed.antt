@@ -1,9 +1,8 @@
 -- Rows that are printed one after another.
 use Rattle.std.proofs.Common.{◌≡◌, ℕ, ◌+◌, ◌≤◌, ◌<◌, nat_le, subst, true, false, if◌then◌else◌, List, [], ◌∷◌, ◌++◌, length, map, Option, None, Some, refl, sym, ap, ◌∙◌, arith, append_assoc, length-append}
 use Rattle.std.specs.List.{flat_map}
-use Rattle.std.proofs.lemmas.Grind.{flat_map-append}
 use Rattle.std.proofs.lemmas.Bool.Decides.{nat_tests}
-use Rattle.std.proofs.lemmas.List.{append-nil, take-append-le, take_all}
+use Rattle.std.proofs.lemmas.List.{append-nil, length-map, map-append, take-append-le, take_all}
 use Rattle.sasi_types.specs.declared.column.ColumnType.{ColumnType}
 use Rattle.sasi_types.specs.declared.decorated_key.DecoratedKey.{DecoratedKey}
 use Rattle.sasi_cells.specs.declared.picked.PickedColumn.{PickedColumn}
@@ -22,27 +21,17 @@ rows_more kind columns f entry entries =
     let row = map (picked_value kind entry.0.key entry.1) columns in
     elim (answers f entry) as (λ b. (if b then row ∷ rest else rest) ≡ (if b then row ∷ [] else []) ++ rest) [ true ↦ refl | false ↦ refl ]
 
--- ---- rows that are printed one after another, up to a LIMIT
-
--- these are left of all rows, and the others were printed
-pub record HasPrinted (limit : Option ℕ) (all left : List (List (Option Value))) (reply_old reply : List ℕ) (count : ℕ) : Type 0 where
-  pub done : List (List (Option Value))
-  pub parts : all ≡ done ++ left
-  pub printed : ArePrinted done reply_old reply count
-  pub allows : Allows limit count
-
-pub printing_begins : (limit : Option ℕ) (all : List (List (Option Value))) (reply : List ℕ) → HasPrinted limit all all reply reply 0
-printing_begins limit all reply = record { done = []; parts = refl; printed = record { reply_is = sym (append-nil reply); count_is = refl }; allows = none_allowed limit }
-  where
-    none_allowed : (o : Option ℕ) → Allows o 0
-    none_allowed None = tt
-    none_allowed (Some n) = omega arith
+-- ---- the lines of rows, up to a LIMIT
 
 within : (a b : ℕ) → nat_le a b ≡ true → a ≤ b
 within a b is = grind (arith, nat_tests)
 
 below : (a b : ℕ) → nat_le a b ≡ false → b < a
 below a b above = grind (arith, nat_tests)
+
+none_allowed : (o : Option ℕ) → Allows o 0
+none_allowed None = tt
+none_allowed (Some n) = omega arith
 
 one_allowed : (limit : Option ℕ) (count more : ℕ) → is_full limit count ≡ false → more ≤ 1 → Allows limit (count + more)
 one_allowed None count more room few = tt
@@ -57,46 +46,41 @@ all_done : (limit : Option ℕ) (done : List (List (Option Value))) → Allows l
 all_done None done allows = refl
 all_done (Some n) done allows = take_all n done allows
 
-module _ (limit : Option ℕ) (all left : List (List (Option Value))) (reply_old reply : List ℕ) (count : ℕ) (on : HasPrinted limit all left reply_old reply count) where
-  -- a further one, where there is room, or none
-  pub printed_more : (first others : List (List (Option Value))) (reply_new : List ℕ) (more : ℕ) → is_full limit count ≡ false → left ≡ first ++ others → ArePrinted first reply reply_new more → more ≤ 1 → HasPrinted limit all others reply_old reply_new (count + more)
-  printed_more first others reply_new more room left_is prints few = record {
-    done = on.done ++ first;
-    parts = on.parts ∙ ap (λ (rs : List (List (Option Value))). on.done ++ rs) left_is ∙ sym (append_assoc on.done first others);
-    printed = record {
-      reply_is = prints.reply_is ∙ ap (λ (x : List ℕ). x ++ flat_map row_line first) on.printed.reply_is ∙ append_assoc reply_old (flat_map row_line on.done) (flat_map row_line first)
-          ∙ ap (λ (x : List ℕ). reply_old ++ x) (sym (flat_map-append row_line on.done first));
-      count_is = let e = length-append on.done first in omega (arith, e, prints.count_is, on.printed.count_is);
-    };
-    allows = one_allowed limit count more room few;
+-- these are left of all rows, and the lines are those of the others
+pub record HasLines (limit : Option ℕ) (all left : List (List (Option Value))) (lines : List (List ℕ)) : Type 0 where
+  pub done : List (List (Option Value))
+  pub parts : all ≡ done ++ left
+  pub lines_are : lines ≡ map row_line done
+  pub allows : Allows limit (length done)
+
+pub lines_begin : (limit : Option ℕ) (all : List (List (Option Value))) → HasLines limit all all []
+lines_begin limit all = record { done = []; parts = refl; lines_are = refl; allows = none_allowed limit }
+
+module _ (limit : Option ℕ) (all left : List (List (Option Value))) (lines : List (List ℕ)) (has : HasLines limit all left lines) where
+  counted : length lines ≡ length has.done
+  counted = ap length has.lines_are ∙ length-map has.done row_line
+
+  -- that of a further row, where there is room, or none
+  pub lines_more : (first others : List (List (Option Value))) (new : List (List ℕ)) → is_full limit (length lines) ≡ false → left ≡ first ++ others → length first ≤ 1 → new ≡ lines ++ map row_line first → HasLines limit all others new
+  lines_more first others new room left_is few pushed = record {
+    done = has.done ++ first;
+    parts = has.parts ∙ ap (λ (rs : List (List (Option Value))). has.done ++ rs) left_is ∙ sym (append_assoc has.done first others);
+    lines_are = pushed ∙ ap (λ (l : List (List ℕ)). l ++ map row_line first) has.lines_are ∙ sym (map-append row_line has.done first);
+    allows = subst (Allows limit) (sym (length-append has.done first)) (one_allowed limit (length has.done) (length first) (ap (is_full limit) (sym counted) ∙ room) few);
   }
 
-  pub counted : count + length left ≡ length all
-  counted = let e = ap length on.parts ∙ length-append on.done left in omega (arith, e, on.printed.count_is)
-
-  allows_done : Allows limit (length on.done)
-  allows_done = subst (Allows limit) on.printed.count_is on.allows
-
   -- there are as many as LIMIT allows
-  pub printed_full : is_full limit count ≡ true → ArePrinted (limited limit all) reply_old reply count
-  printed_full full =
-      let is : limited limit all ≡ on.done = ap (limited limit) on.parts ∙ first_done limit on.done left allows_done (subst (λ n. is_full limit n ≡ true) on.printed.count_is full) in
-      subst (λ (rs : List (List (Option Value))). ArePrinted rs reply_old reply count) (sym is) on.printed
+  pub lines_full : is_full limit (length lines) ≡ true → lines ≡ map row_line (limited limit all)
+  lines_full full =
+      has.lines_are ∙ ap (map row_line) (sym (ap (limited limit) has.parts ∙ first_done limit has.done left has.allows (ap (is_full limit) (sym counted) ∙ full)))
 
-  -- none is left
-  pub printed_all : left ≡ [] → ArePrinted (limited limit all) reply_old reply count
-  printed_all end =
-      let is : limited limit all ≡ on.done = ap (limited limit) (on.parts ∙ ap (λ (rs : List (List (Option Value))). on.done ++ rs) end ∙ append-nil on.done) ∙ all_done limit on.done allows_done in
-      subst (λ (rs : List (List (Option Value))). ArePrinted rs reply_old reply count) (sym is) on.printed
+  -- there are no others
+  pub lines_all : left ≡ [] → lines ≡ map row_line (limited limit all)
+  lines_all end =
+      has.lines_are
+      ∙ ap (map row_line) (sym (ap (limited limit) (has.parts ∙ ap (λ (rs : List (List (Option Value))). has.done ++ rs) end ∙ append-nil has.done) ∙ all_done limit has.done has.allows))
 
--- at most one row is all that a LIMIT allows, but for a LIMIT of none
-pub printed_once : (limit : Option ℕ) (rows : List (List (Option Value))) (reply_old reply : List ℕ) (count : ℕ) → is_full limit 0 ≡ false → ArePrinted rows reply_old reply count → count ≤ 1 → ArePrinted (limited limit rows) reply_old reply count
-printed_once limit rows reply_old reply count room printed few =
-    let n : 0 + count ≡ length rows = omega (arith, printed.count_is) in
-    subst (λ (rs : List (List (Option Value))). ArePrinted rs reply_old reply count) (sym (all_done limit rows (subst (Allows limit) n (one_allowed limit 0 count room few)))) printed
-
-pub printed_none : (limit : Option ℕ) (rows : List (List (Option Value))) (reply : List ℕ) → is_full limit 0 ≡ true → ArePrinted (limited limit rows) reply reply 0
-printed_none limit rows reply full = printed_full limit rows rows reply reply 0 (printing_begins limit rows reply) full
+-- ---- rows that are printed one after another
 
 -- with their number they are the answer
 pub answer_is : (rows : List (List (Option Value))) (reply_old reply reply_new : List ℕ) (count : ℕ) → ArePrinted rows reply_old reply count → reply_new ≡ reply ++ count_line count → reply_new ≡ reply_old ++ rows_lines rows
@@ -105,6 +89,18 @@ answer_is rows reply_old reply reply_new count printed counted =
     ∙ ap (λ (x : List ℕ). x ++ count_line count) printed.reply_is
     ∙ append_assoc reply_old (flat_map row_line rows) (count_line count)
     ∙ ap (λ n. reply_old ++ (flat_map row_line rows ++ count_line n)) printed.count_is
+
+-- a row that is there, as its line
+pub line_printed : (rows : List (List (Option Value))) (line : List ℕ) (count : ℕ) (lines new : List (List ℕ)) → count ≡ length rows → count ≤ 1 → 0 < count → line ≡ flat_map row_line rows → new ≡ lines ++ line ∷ []
+    → new ≡ lines ++ map row_line rows
+line_printed [] line count lines new counts few some printed pushed = absurd (omega (arith, counts, some))
+line_printed (row ∷ []) line count lines new counts few some printed pushed = pushed ∙ ap (λ (l : List ℕ). lines ++ l ∷ []) (printed ∙ append-nil (row_line row))
+line_printed (row ∷ other ∷ rows) line count lines new counts few some printed pushed = absurd (omega (arith, counts, few))
+
+-- and one that isn't
+pub no_line : (rows : List (List (Option Value))) (count : ℕ) (lines : List (List ℕ)) → count ≡ length rows → count ≡ 0 → lines ≡ lines ++ map row_line rows
+no_line [] count lines counts none = sym (append-nil lines)
+no_line (row ∷ rows) count lines counts none = absurd (omega (arith, counts, none))
 
 -- ---- one row
 

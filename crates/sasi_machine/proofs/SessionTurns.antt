@@ -1,5 +1,5 @@
 -- What pieces make of a session, and what it answers to them.
-use Rattle.std.proofs.Common.{◌≡◌, ◌⊎◌, Bool, true, false, ℕ, List, [], Option, None, Some, IsSome, inl, inr, refl, ap, sym, ◌∙◌}
+use Rattle.std.proofs.Common.{◌≡◌, ◌⊎◌, Bool, true, false, ℕ, List, [], ◌∷◌, take, Option, None, Some, IsSome, inl, inr, refl, ap, sym, ◌∙◌}
 use Rattle.std.proofs.lemmas.List.{append-nil}
 use Rattle.std.specs.List.{list_any}
 use Rattle.std.specs.Option.{option_map_or}
@@ -9,12 +9,14 @@ use Rattle.sasi_model.specs.Abbreviations.{NoCursor, first_refusal}
 use Rattle.sasi_model.specs.Parsers.{grammar_parser}
 use Rattle.sasi_model.specs.Pieces.{Piece}
 use Rattle.sasi_model.specs.Refusals.{Bad, Nothing, ParsedPiece, Refusal, Says, cursor_rules, read, refusal}
-use Rattle.sasi_model.specs.Sessions.{CheckedTail, FilesTail, NoTail, SessionState, Tail, Told, Turn, cursor_names, cursor_refusal, refused_turn, reply_by, tail_bytes, taken_turn, turn_as, turn_by}
+use Rattle.sasi_model.specs.Lines.{rows_lines}
+use Rattle.sasi_model.specs.Sessions.{CheckedTail, FilesTail, NoTail, SessionState, Tail, Told, Turn, cursor_names, cursor_refusal, fetch_count, ok_turn, refused_turn, reply_by, rows_given, rows_left, tail_bytes, taken_turn, turn_as, turn_by, without_cursor}
 use Rattle.sasi_model.specs.State.{State}
-use Rattle.sasi_model.specs.Step.{StepResult, answer_of, execute, refused_step, step, step_as, step_by}
+use Rattle.sasi_model.specs.Step.{StepResult, answer_of, execute, refused_step, rows_selected, step, step_as, step_by}
 use Rattle.sasi_model.specs.Tokens.{same}
 use Rattle.sasi_schema.specs.declared.index.NewIndex.{NewIndex}
 use Rattle.sasi_schema.specs.declared.table.Table.{Table}
+use Rattle.sasi_types.specs.declared.statement.Select.{Select}
 use Rattle.sasi_types.specs.declared.statement.Statement.{Statement}
 use Rattle.sasi_types.specs.declared.statement.Statement.TheVariants.{CloseCursor, CreateTable, CreateIndex, Fetch, Insert, OpenCursor, Update, Delete, Query, Flush, ShowFiles, Trace}
 use Rattle.sasi_machine.specs.Prepares.{AsksFiles, ClosesCursor, CreatesTable, DefinesIndex, FetchesRows, FlushesTable, IsRefusedOrEmpty, OpensCursor, SaysOne, SelectsRows, TurnsTrace, WritesTo}
@@ -207,4 +209,68 @@ closed_refused s piece name (statement, says, well, is) x none = by statement sa
     by : (statement : Statement) → read piece ≡ Says statement → ClosesCursor s statement name → turn_by grammar_parser x s piece ≡ refused_turn x (NoCursor name)
     by (CloseCursor cursor) says is = ruled_turn s piece (CloseCursor cursor) x (NoCursor name) says is.0
         (ap (λ name. first_refusal (cursor_rules (cursor_names x) (CloseCursor name))) (sym is.1) ∙ rw none refl)
+    by statement says is = absurd is
+
+-- ---- what no rule of cursors refuses
+
+-- a statement on cursors that is taken
+taken_turns : (s : State) (piece : Piece) (statement : Statement) (x : SessionState) → read piece ≡ Says statement → refusal s statement ≡ None
+    → first_refusal (cursor_rules (cursor_names x) statement) ≡ None → turn_by grammar_parser x s piece ≡ taken_turn x s statement
+unfolding turn_by
+taken_turns s piece statement x says taken first = ap (turn_as x s) says ∙ rw (taken, first) refl
+
+-- OPEN: one cursor more, with the rows that the SELECT has now
+pub opened_turns : (s : State) (piece : Piece) (asked : OpenAsked) → SaysOne piece (λ statement. OpensCursor s statement asked) → (x : SessionState)
+    → first_refusal (cursor_rules (cursor_names x) (OpenCursor asked.cursor asked.rows.select)) ≡ None
+    → turn_by grammar_parser x s piece ≡ ok_turn (record x { cursors = x.cursors ++ record { name = asked.cursor; rows = rows_selected s asked.rows.select } ∷ [] })
+opened_turns s piece asked (statement, says, well, is) x first = by statement says is
+  where
+    taken : List ℕ → Select → Turn
+    taken cursor select = ok_turn (record x { cursors = x.cursors ++ record { name = cursor; rows = rows_selected s select } ∷ [] })
+
+    by : (statement : Statement) → read piece ≡ Says statement → OpensCursor s statement asked → turn_by grammar_parser x s piece ≡ taken asked.cursor asked.rows.select
+    by (OpenCursor cursor select) says is =
+        taken_turns s piece (OpenCursor cursor select) x says is.taken
+        (ap (λ name. first_refusal (cursor_rules (cursor_names x) (OpenCursor name select))) (sym is.cursor_is)
+        ∙ ap (λ rows. first_refusal (cursor_rules (cursor_names x) (OpenCursor asked.cursor rows))) (sym is.select_is) ∙ first)
+        ∙ ap (λ name. taken name select) (sym is.cursor_is) ∙ ap (taken asked.cursor) (sym is.select_is)
+    by statement says is = absurd is
+
+-- FETCH: the next rows of the cursor, which it no longer has
+pub fetched_turns : (s : State) (piece : Piece) (asked : FetchAsked) → SaysOne piece (λ statement. FetchesRows s statement asked) → (x : SessionState)
+    → list_any (same asked.cursor) (cursor_names x) ≡ true
+    → turn_by grammar_parser x s piece ≡ record {
+      session = record x { cursors = rows_given asked.cursor asked.count x.cursors };
+      reply = rows_lines (take asked.count (rows_left asked.cursor x.cursors));
+      tail = NoTail;
+      refused = None;
+    }
+fetched_turns s piece asked (statement, says, well, is) x there = by statement says is
+  where
+    taken : List ℕ → ℕ → Turn
+    taken cursor count = record {
+      session = record x { cursors = rows_given cursor count x.cursors };
+      reply = rows_lines (take count (rows_left cursor x.cursors));
+      tail = NoTail;
+      refused = None;
+    }
+
+    by : (statement : Statement) → read piece ≡ Says statement → FetchesRows s statement asked → turn_by grammar_parser x s piece ≡ taken asked.cursor asked.count
+    by (Fetch cursor count) says is =
+        taken_turns s piece (Fetch cursor count) x says is.0
+        (ap (λ name. first_refusal (cursor_rules (cursor_names x) (Fetch name count))) (sym is.1) ∙ rw there refl)
+        ∙ ap (λ name. taken name (fetch_count count)) (sym is.1) ∙ ap (taken asked.cursor) (sym is.2)
+    by statement says is = absurd is
+
+-- CLOSE: the cursor is open no longer
+pub closed_turns : (s : State) (piece : Piece) (name : List ℕ) → SaysOne piece (λ statement. ClosesCursor s statement name) → (x : SessionState)
+    → list_any (same name) (cursor_names x) ≡ true → turn_by grammar_parser x s piece ≡ ok_turn (record x { cursors = without_cursor name x.cursors })
+closed_turns s piece name (statement, says, well, is) x there = by statement says is
+  where
+    by : (statement : Statement) → read piece ≡ Says statement → ClosesCursor s statement name
+        → turn_by grammar_parser x s piece ≡ ok_turn (record x { cursors = without_cursor name x.cursors })
+    by (CloseCursor cursor) says is =
+        taken_turns s piece (CloseCursor cursor) x says is.0
+        (ap (λ other. first_refusal (cursor_rules (cursor_names x) (CloseCursor other))) (sym is.1) ∙ rw there refl)
+        ∙ ap (λ other. ok_turn (record x { cursors = without_cursor other x.cursors })) (sym is.1)
     by statement says is = absurd is

@@ -5,6 +5,7 @@ pub mod TableRows
 pub mod Faults
 pub mod KeyLiteral
 pub mod Operands
+pub mod MachineView
 pub mod Outcome
 pub mod Picks
 pub mod Prepares

@@ -1,6 +1,6 @@
 //! Prepares pieces: parses one, refuses it or tells what it asks, and prints its reply. `RowQuery` is what a SELECT asks of the rows
-//! of a table, and `Machine` applies all that to tables in memory alone. It stands on sasi_cql, sasi_schema, sasi_memtable,
-//! sasi_analyzers and sasi_print, and promises the state, the reply and the refusal of the model's step.
+//! of a table, and `Machine` applies all that to tables and cursors in memory alone. It stands on sasi_cql, sasi_schema, sasi_memtable,
+//! sasi_cursors, sasi_analyzers and sasi_print, and promises the state, the session, the reply and the refusal of the model.
 #![tactic(auto)]
 
 mod assign;
@@ -12,6 +12,7 @@ mod check;
 mod condition;
 mod conditions;
 mod cursors;
+mod database;
 mod fault;
 mod index;
 mod key;
@@ -26,6 +27,8 @@ mod outcome;
 mod picking;
 mod prepared;
 mod preparing;
+mod printed_cursors;
+mod printed_rows;
 mod read;
 mod refusal;
 mod relation;
@@ -42,7 +45,7 @@ mod terms;
 mod time;
 
 pub use condition::{Comparison, Condition};
-pub use cursors::open_refusal;
+pub use cursors::check_open;
 pub use machine::Machine;
 pub use outcome::Outcome;
 pub use prepared::{FetchAsked, OpenAsked, Prepared, Selection};

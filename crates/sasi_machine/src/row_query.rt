@@ -8,8 +8,7 @@ ghost use Rattle.sasi_model.specs.Abbreviations.{key_type, row_line};
 ghost use Rattle.sasi_model.specs.Cells.{Partition as Cells};
 ghost use Rattle.sasi_model.specs.Conditions.{condition_of};
 ghost use Rattle.sasi_model.specs.Filters.{answers, limited, row_limit, where_of};
-ghost use Rattle.sasi_model.specs.Lines.{rows_lines};
-ghost use Rattle.sasi_model.specs.Step.{select_lines, selected_columns};
+ghost use Rattle.sasi_model.specs.Step.{select_rows, selected_columns};
 ghost use Rattle.sasi_schema.specs.Defined.{definition};
 ghost use Rattle.sasi_machine.specs.Classes.{OnMissing, TableLacks, WhereLacks};
 ghost use Rattle.sasi_machine.specs.Operands.{CanSelect};
@@ -51,8 +50,8 @@ impl RowQuery {
         ensures limit { IfOk result (λ query. query.limit ≡ row_limit select.now.limit) }
         ensures filter { IfOk result (λ query. query.filter ≡ map (condition_of (definition table.now)) select.now.relations) }
 
-        // The lines of its rows are those of the SELECT.
-        ensures lines { IfOk result (λ query. (entries : List (DecoratedKey × Cells)) → rows_lines (limited query.limit (rows_picked query.picked.key query.picked.columns (where_of query.filter) entries)) ≡ select_lines (definition table.now) select.now entries) }
+        // Its rows are those of the SELECT.
+        ensures rows { IfOk result (λ query. (entries : List (DecoratedKey × Cells)) → limited query.limit (rows_picked query.picked.key query.picked.columns (where_of query.filter) entries) ≡ select_rows (definition table.now) select.now entries) }
 
         // A class is missing only where an index of the table needs it, and so it is when a row is tested.
         ensures classes { IfOk result (λ query. (kinds : List Class) (class : Class) → WhereLacks kinds query.filter class → TableLacks kinds (definition table.now) class) }

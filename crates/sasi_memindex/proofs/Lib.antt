@@ -12,3 +12,4 @@ pub mod AddedIndexes
 pub mod Places
 pub mod ChangedIndexes
 pub mod BuiltIndexes
+pub mod GrowthLaws

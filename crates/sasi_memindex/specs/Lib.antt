@@ -6,3 +6,4 @@ pub mod Hits
 pub mod Kept
 pub mod Runs
 pub mod Book
+pub mod Growth

@@ -294,12 +294,10 @@ select_rules select d = answer_rules select d ++ too_many_relations select ∷ [
 abbrev pub fetch_range : Number → RefusalRule
 fetch_range count = (not (is_count count), (9, codes "NumberRange FETCH"))
 
--- Of a statement on a cursor these rules come after the others. They depend on the names of the open cursors. An OPEN that they let through
--- isn't built yet.
+-- Of a statement on a cursor these rules come after the others. They depend on the names of the open cursors.
 abbrev pub cursor_rules : List (List ℕ) → Statement → List RefusalRule
 cursor_rules names (OpenCursor cursor select) =
-    (list_any (same cursor) names, (22, codes "CursorExists " ++ cursor)) ∷ (nat_le 64 (length names), (24, codes "TooMany cursors 64")) ∷ too_many_relations select
-    ∷ (true, (90, codes "NotBuilt")) ∷ []
+    (list_any (same cursor) names, (22, codes "CursorExists " ++ cursor)) ∷ (nat_le 64 (length names), (24, codes "TooMany cursors 64")) ∷ too_many_relations select ∷ []
 cursor_rules names (Fetch cursor count) = (not (list_any (same cursor) names), (23, codes "NoCursor " ++ cursor)) ∷ []
 cursor_rules names (CloseCursor cursor) = (not (list_any (same cursor) names), (23, codes "NoCursor " ++ cursor)) ∷ []
 cursor_rules names statement = []

@@ -6,7 +6,7 @@ use Rattle.sasi_host.specs.declared.name.FileName.{FileName}
 use Rattle.sasi_host.specs.Names.{Folder}
 use Rattle.sasi_memindex.specs.Book.{Book}
 use Rattle.sasi_views.specs.declared.part.Part as view
-use Rattle.sasi_recheck.proofs.GrowthLaws.{grown_not}
+use Rattle.sasi_memindex.proofs.GrowthLaws.{grown_not}
 use Rattle.sasi_recheck.specs.Optional.{SourceOr}
 use Rattle.sasi_engine.specs.HitCandidates.{PlanWorld}
 use Rattle.sasi_engine.specs.Plans.{is_file_of}

@@ -24,7 +24,7 @@ use Rattle.sasi_candidates.specs.Parts.{maps_of}
 use Rattle.sasi_candidates.proofs.Answers.{answer_is_checked}
 use Rattle.sasi_candidates.proofs.GroupLaws.{groups_have}
 use Rattle.sasi_views.specs.declared.part.Part as view
-use Rattle.sasi_recheck.proofs.GrowthLaws.{grown_not}
+use Rattle.sasi_memindex.proofs.GrowthLaws.{grown_not}
 use Rattle.sasi_recheck.specs.Rows.{GivesAllowed, RecheckView, allowed_after, asked_in, counted_on, looked_in}
 use Rattle.sasi_recheck.specs.Sources.{Candidate}
 use Rattle.sasi_engine.specs.declared.relation.IndexedRelation.{IndexedRelation}

@@ -11,7 +11,7 @@ use Rattle.sasi_memindex.specs.Book.{Book}
 use Rattle.sasi_model.specs.Cells.{Partition}
 use Rattle.sasi_ranges.specs.StreamCalls.{Spends, StreamFaults}
 use Rattle.sasi_ranges.proofs.Calling.{fails_nothing, faults_as, faults_memory}
-use Rattle.sasi_recheck.proofs.GrowthLaws.{grown_not}
+use Rattle.sasi_memindex.proofs.GrowthLaws.{grown_not}
 use Rattle.sasi_recheck.specs.Sources.{Candidate, GivesFirst}
 use Rattle.sasi_plan.specs.Begun.{Since}
 

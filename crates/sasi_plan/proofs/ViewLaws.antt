@@ -19,7 +19,7 @@ use Rattle.sasi_datawrite.specs.Format.{Content}
 use Rattle.sasi_layout.specs.Layout.{TableParts}
 use Rattle.sasi_scan.specs.Parts.{AreContents, merged_parts}
 use Rattle.sasi_scan.proofs.KeyLookups.{parts_are}
-use Rattle.sasi_recheck.specs.Growth.{IsGrown}
+use Rattle.sasi_memindex.specs.Growth.{IsGrown}
 use Rattle.sasi_sources.specs.KeyCandidates.{IsListed}
 use Rattle.sasi_views.specs.declared.part.Part as view
 use Rattle.sasi_views.specs.declared.part.Part.TheVariants as view_part

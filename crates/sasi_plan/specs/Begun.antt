@@ -5,7 +5,7 @@ use Rattle.sasi_host.specs.declared.name.FileName.{FileName}
 use Rattle.sasi_host.specs.Names.{Folder}
 use Rattle.sasi_host.specs.View.{contents_in}
 use Rattle.sasi_memindex.specs.Book.{Book}
-use Rattle.sasi_recheck.specs.Growth.{IsGrown}
+use Rattle.sasi_memindex.specs.Growth.{IsGrown}
 
 -- since an earlier moment the files that may be read are unchanged, and of the maps that are looked at at most indexes were added
 pub record AreUnchanged (Opens : FileName → Type 0) (Uses : ℕ → Type 0) (was files : Option Folder) (origin book : Book) : Type 0 where

@@ -22,7 +22,7 @@ use Rattle.sasi_candidates.specs.Candidates.{candidates}
 use Rattle.sasi_candidates.specs.Costs.{cost, file_cost, files_of, token_cost}
 use Rattle.sasi_model.specs.Filters.{key_asked, where_of}
 use Rattle.sasi_candidates.specs.Parts.{maps_of}
-use Rattle.sasi_recheck.specs.Growth.{IsGrown}
+use Rattle.sasi_memindex.specs.Growth.{IsGrown}
 use Rattle.sasi_recheck.specs.Sources.{Candidate, first_price}
 use Rattle.sasi_engine.specs.declared.relation.IndexedRelation.{IndexedRelation}
 use Rattle.sasi_engine.specs.Asked.{asked_of}

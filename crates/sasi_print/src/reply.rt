@@ -1,7 +1,7 @@
 // Replies.
-ghost use Rattle.std.specs.Prelude.{◌≡◌, []};
+ghost use Rattle.std.specs.Prelude.{◌≡◌, ◌++◌, [], OnOk};
 
-use std::alloc::Global;
+use std::alloc::{AllocError, Global};
 use std::marker::Model;
 
 /// The reply to a piece, seen as its bytes. A call that fails may have added a part of its line: clear it then.
@@ -33,6 +33,14 @@ impl Reply {
         ensures { result.now ≡ self.now }
     {
         &self.bytes
+    }
+
+    /// Adds the bytes of another reply.
+    pub fn append(&mut self, other: &Reply) -> Result<(), AllocError>
+        ensures ok { OnOk result (self.new ≡ self.old ++ other.now) }
+    {
+        self.bytes.extend_from_slice(&other.bytes)?;
+        Ok(())
     }
 
     /// Empties the reply.

@@ -1,2 +1,1 @@
-pub mod GrowthLaws
 mod TurnLaws

@@ -1,5 +1,4 @@
 pub mod Sources
-pub mod Growth
 pub mod Rows
 pub mod Optional
 pub mod inside

@@ -8,7 +8,7 @@ ghost use Rattle.sasi_host.specs.Names.{Folder};
 ghost use Rattle.sasi_host.specs.View.{contents_in};
 ghost use Rattle.sasi_memindex.specs.Book.{Book};
 ghost use Rattle.sasi_ranges.specs.StreamCalls.{CanStream, HasStreamed, Spends, StreamFaults};
-ghost use Rattle.sasi_recheck.specs.Growth.{IsGrown};
+ghost use Rattle.sasi_memindex.specs.Growth.{IsGrown};
 ghost use Rattle.sasi_recheck.specs.Sources.{Candidate, GivesFirst, GivesPrintable, first_price};
 
 use sasi_cells::Partition;

@@ -12,13 +12,15 @@ use Rattle.sasi_layout.specs.Classes.{HasNeeded, LacksNeeded}
 use Rattle.sasi_layout.specs.Serving.{known_in_memory}
 use Rattle.sasi_layout.specs.Statements.{known_in}
 use Rattle.sasi_layout.specs.Spent.{spent}
-use Rattle.sasi_store.specs.Worlds.{HasNoCursor, ServesWorld, World, steps}
+use Rattle.sasi_store.specs.Cursors.{GivesRows, HasNamesOf}
+use Rattle.sasi_store.specs.Worlds.{ServesWorld, World, steps}
 use Rattle.sasi_layout.proofs.StatementLaws.{known_is}
+use Rattle.sasi_cursors.proofs.Agreement.{agree_names}
 use Rattle.sasi_model.specs.Pieces.{Piece}
 use Rattle.sasi_model.specs.Asked.{Asked, asks, class_needed}
 use Rattle.sasi_model.specs.Refusals.{Known, Refusal}
 use Rattle.sasi_model.specs.Parsers.{grammar_parser}
-use Rattle.sasi_model.specs.Sessions.{SessionState, refused_by, session_by, sessions_by}
+use Rattle.sasi_model.specs.Sessions.{Cursor, SessionState, refused_by, session_by, sessions_by}
 use Rattle.sasi_model.specs.State.{State}
 use Rattle.sasi_model.specs.Step.{state_after}
 use Rattle.sasi_cql.specs.SplitterState.{resume, behind}
@@ -128,7 +130,7 @@ pub record StepDone (kinds : List Class) (session : Session) (later : Store) (a 
   pub change : Changes AnyFolderChange a b
   pub moments : (w : World) → ServesWorld a session.store w → Changes (λ x y. Between w.layout (steps.moves w piece) y) a b
   pub answers : (w : World) → ServesWorld a session.store w → Answered b later.parts later.session w piece reply outcome
-  pub anywhere : (x : SessionState) (s : State) → HasNoCursor x → IsStateOf (known_in_memory (store_memory session.store)) s → AnsweredButRows later.parts later.session x s piece reply outcome
+  pub anywhere : (x : SessionState) (s : State) → HasNamesOf session.store.session.cursors x → IsStateOf (known_in_memory (store_memory session.store)) s → AnsweredButRows later.parts later.session x s piece reply outcome
   pub analyzer : HasNeeded kinds (class_needed (asks (known_in_memory (store_memory session.store)) piece))
 
 module _ {kinds : List Class} (session : Session) (later : Store) (a b d : View) (piece : Piece) (reply bytes : List ℕ) (outcome : Outcome)
@@ -188,7 +190,7 @@ module _ {kinds : List Class} (session : Session) (later : Store) (a b d : View)
     ran = λ w serves.
         (let is = done.answers w serves in
         record {
-          serves = rw store_is (record { serves = serves_still b d (store_memory later) _ emits.files emits.image is.serves.serves; trace_is = is.serves.trace_is; cursors_are = is.serves.cursors_are });
+          serves = rw store_is (serves_still b d later _ emits.files emits.image is.serves);
           shown = subst (λ (r : List ℕ). Appends a.emitted d.emitted r) (same ∙ is.reply_is ∙ sym (append-nil (steps.reply w piece)))
               (subst (λ (l : Option (List ℕ)). Appends l d.emitted bytes) done.change.emitted all);
           count = count ∙ ap (counted_outcome session.refused) is.outcome_is ∙ counts session.refused (refused_by grammar_parser w.session (state_of w.layout) piece) small;
@@ -345,3 +347,7 @@ stops_later stop old mid a b c bytes xs ys rest t u parts = record {
 -- the state of the world that a store serves has its definitions and its largest timestamp
 pub state_served : (v : View) (store : Store) (w : World) → ServesWorld v store w → IsStateOf (known_in_memory (store_memory store)) (state_of w.layout)
 state_served v store w serves = sym (known_is w.layout) ∙ sym (known_served v store w serves)
+
+-- and its session has the names of the store's cursors
+pub names_served : (v : View) (store : Store) (w : World) → ServesWorld v store w → HasNamesOf store.session.cursors w.session
+names_served v store w serves = agree_names (λ (x : Cursor). x.name) (GivesRows v.files store.parts.maps) store.session.cursors w.session.cursors serves.cursors_are

@@ -16,9 +16,10 @@ use Rattle.sasi_layout.specs.Shape.{IsOfShape, StandsSealed}
 use Rattle.sasi_layout.specs.Statements.{known_in, moves_asked, moves_of}
 use Rattle.sasi_layout.specs.NumbersInOrder.{HasNumbersInOrder}
 use Rattle.sasi_layout.specs.Transitions.{Transitions}
-use Rattle.sasi_store.specs.Worlds.{steps}
+use Rattle.sasi_store.specs.Worlds.{World, moves_in, steps}
 use Rattle.sasi_layout.proofs.LayoutLaws.{bare_state}
-use Rattle.sasi_layout.proofs.StatementLaws.{front_state_by, step_in_order}
+use Rattle.sasi_layout.proofs.StatementLaws.{front_state_by}
+use Rattle.sasi_run.proofs.OpeningMoves.{front_state, moves_are, world_in_order}
 use Rattle.sasi_run.proofs.SilentPieces.{silent_piece}
 
 -- ---- moments by states, of worlds of any kind
@@ -110,11 +111,18 @@ either l (Defines table index) done rest parts front whole = first_either l (Def
 either l (Writes table key change) done rest parts front whole = first_either l (Put _) _ done rest parts (flush_keeps table _) front whole
 either l (Flushes table) done rest parts front whole = kept_either l _ done rest parts (flush_keeps table _) front
 
--- so it is with the moves of a piece
-pub piece_either : (l : Layout) (piece : Piece) (done rest : List Move) → moves_of l piece ≡ done ++ rest → HasNumbersInOrder l → IsEither l (moves_of l piece) done
+-- so it is with the moves of a piece in a layout
+piece_either : (l : Layout) (piece : Piece) (done rest : List Move) → moves_of l piece ≡ done ++ rest → HasNumbersInOrder l → IsEither l (moves_of l piece) done
 piece_either l piece done rest parts in_order =
     either l (asks (known_in l) piece) done rest parts (front_state_by grammar_parser l piece done rest parts in_order)
     (front_state_by grammar_parser l piece (moves_of l piece) [] (sym (append-nil (moves_of l piece))) in_order)
+
+-- and in a world
+pub world_either : (w : World) (piece : Piece) (done rest : List Move) → HasNumbersInOrder w.layout → moves_in grammar_parser w piece ≡ done ++ rest → IsEither w.layout (moves_in grammar_parser w piece) done
+world_either w piece done rest in_order parts =
+    ⊎_elim (λ same. subst (λ (ms : List Move). IsEither w.layout ms done) (sym same) (piece_either w.layout piece done rest (sym same ∙ parts) in_order))
+    (λ freeze. subst (λ (ms : List Move). IsEither w.layout ms done) (sym freeze.one) (kept_either w.layout (Freeze freeze.table ∷ []) done rest (sym freeze.one ∙ parts) (refl, tt) (front_state w piece in_order done rest parts)))
+    (moves_are w piece)
 
 -- ---- what moments rest on
 
@@ -129,8 +137,8 @@ pub record StepsByState {W : Type 0} (t : Transitions W) : Type 1 where
 abbrev pub by_state : StepsByState steps
 by_state = record {
   IsValid = λ w. HasNumbersInOrder w.layout;
-  valid = λ w piece in_order. step_in_order grammar_parser w.layout piece in_order;
-  either = λ w piece done rest in_order parts. piece_either w.layout piece done rest parts in_order;
+  valid = λ w piece in_order. world_in_order w piece in_order;
+  either = world_either;
   silent = silent_piece;
 }
 

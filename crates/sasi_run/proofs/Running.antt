@@ -14,8 +14,9 @@ use Rattle.sasi_layout.specs.Moves.{Move, after_moves}
 use Rattle.sasi_layout.specs.Running.{Crashed, IsBusy, IsQuiet, after_pieces, replies_of}
 use Rattle.sasi_layout.specs.Serving.{Serves, StoreInMemory}
 use Rattle.sasi_layout.specs.Shape.{IsOfShape}
-use Rattle.sasi_store.specs.Worlds.{World, steps}
-use Rattle.sasi_store.specs.StoreView.{IsReady}
+use Rattle.sasi_store.specs.Cursors.{AreCursors, AreCursorsOf}
+use Rattle.sasi_store.specs.Worlds.{ServesWorld, World, steps}
+use Rattle.sasi_store.specs.StoreView.{IsReady, store_memory}
 use Rattle.sasi_store.specs.declared.store.Store.{Store}
 use Rattle.sasi_run.specs.Crashing.{CrashLeavesPieces}
 use Rattle.sasi_run.proofs.Worlds.{after_both, replies_both}
@@ -32,9 +33,14 @@ grown (Some o) (Some n) before more is appends =
 
 -- ---- the store
 
--- after an emit a store serves the same layout
-pub serves_still : (a b : View) (store : StoreInMemory) (l : Layout) → b.files ≡ a.files → ((x : Folder) → b.image x → a.image x) → Serves a store l → Serves b store l
-serves_still a b store l same fewer serves = serves_fewer a b fewer store l (subst (λ (f : Option Folder). IsSome f) (sym same) serves.told) serves
+-- after an emit a store serves the same world
+pub serves_still : (a b : View) (store : Store) (w : World) → b.files ≡ a.files → ((x : Folder) → b.image x → a.image x) → ServesWorld a store w → ServesWorld b store w
+serves_still a b store w same fewer serves = record {
+  serves = serves_fewer a b fewer (store_memory store) w.layout (subst (λ (f : Option Folder). IsSome f) (sym same) serves.serves.told) serves.serves;
+  trace_is = serves.trace_is;
+  cursors_are = subst (λ (f : Option Folder). AreCursorsOf f store.parts.maps store.session.cursors w.session) (sym same) serves.cursors_are;
+  views_are = serves.views_are;
+}
 
 -- and can make a change as before
 pub ready_still : (a b : View) (store : Store) → b.files ≡ a.files → ((x : Folder) → b.image x → a.image x) → IsReady a store → IsReady b store
@@ -56,7 +62,7 @@ ready_still a b store same fewer ready = record {
   };
   usable = ready.usable;
   parts = ready.parts;
-  none_out = ready.none_out;
+  cursors = subst (λ (f : Option Folder). AreCursors f store.parts store.session) (sym same) ready.cursors;
 }
 
 -- each image has the shape of the layout that is served

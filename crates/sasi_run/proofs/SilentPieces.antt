@@ -13,7 +13,7 @@ use Rattle.sasi_model.specs.Step.{step, step_as, step_by}
 use Rattle.sasi_layout.specs.Layout.{state_of}
 use Rattle.sasi_layout.specs.NumbersInOrder.{HasNumbersInOrder}
 use Rattle.sasi_store.specs.Worlds.{World, steps}
-use Rattle.sasi_layout.proofs.StatementLaws.{step_state_by}
+use Rattle.sasi_run.proofs.OpeningMoves.{world_state}
 
 silent_or : (x : SessionState) (s : State) (statement : Statement) (r : Option Refusal)
     → (option_map_or (refused_turn x) r (option_map_or (refused_turn x) (cursor_refusal x statement) (taken_turn x s statement))).reply ≡ [] → (execute_or s statement r).state ≡ s
@@ -39,4 +39,4 @@ empty_front [] ys empty = refl
 empty_front (x ∷ xs) ys empty = cc
 
 pub silent_piece : (w : World) (piece : Piece) → HasNumbersInOrder w.layout → steps.reply w piece ≡ [] → state_of (steps.after w piece).layout ≡ state_of w.layout
-silent_piece w piece in_order none = step_state_by grammar_parser w.layout piece in_order ∙ silent_turn w.session (state_of w.layout) piece (empty_front (turn_by grammar_parser w.session (state_of w.layout) piece).reply _ none)
+silent_piece w piece in_order none = world_state w piece in_order ∙ silent_turn w.session (state_of w.layout) piece (empty_front (turn_by grammar_parser w.session (state_of w.layout) piece).reply _ none)

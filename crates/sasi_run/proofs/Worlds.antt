@@ -11,13 +11,13 @@ use Rattle.sasi_layout.specs.Layout.{state_of}
 use Rattle.sasi_layout.specs.Running.{after_pieces, replies_of}
 use Rattle.sasi_layout.specs.NumbersInOrder.{HasNumbersInOrder}
 use Rattle.sasi_store.specs.Worlds.{World, steps, told_in}
-use Rattle.sasi_layout.proofs.StatementLaws.{step_in_order, step_state_by}
 use Rattle.sasi_run.specs.EmitCounts.{emits_for, emits_in, emits_of}
 use Rattle.sasi_run.specs.Headline.{AreReplies}
 use Rattle.sasi_run.specs.Session.{refusals_of, refused_in}
 use Rattle.sasi_run.specs.Needs.{AreSupplied}
 use Rattle.sasi_run.specs.Shapes.{answers_of}
 use Rattle.sasi_run.proofs.Joining.{after-append, first_answers, replies-append}
+use Rattle.sasi_run.proofs.OpeningMoves.{world_in_order, world_state}
 
 -- ---- one after another
 
@@ -43,28 +43,28 @@ supplied_both kinds (x ∷ xs) ys w none later = (none.0, supplied_both kinds xs
 
 pub in_order_after : (ps : List Piece) (w : World) → HasNumbersInOrder w.layout → HasNumbersInOrder (after_pieces steps w ps).layout
 in_order_after [] w in_order = in_order
-in_order_after (p ∷ ps) w in_order = in_order_after ps (steps.after w p) (step_in_order grammar_parser w.layout p in_order)
+in_order_after (p ∷ ps) w in_order = in_order_after ps (steps.after w p) (world_in_order w p in_order)
 
 -- the state after the pieces is that of the model
 pub state_is : (ps : List Piece) (w : World) → HasNumbersInOrder w.layout → state_of (after_pieces steps w ps).layout ≡ state_after (state_of w.layout) ps
 state_is [] w in_order = refl
-state_is (p ∷ ps) w in_order = state_is ps (steps.after w p) (step_in_order grammar_parser w.layout p in_order) ∙ ap (λ (s : State). state_after s ps) (step_state_by grammar_parser w.layout p in_order)
+state_is (p ∷ ps) w in_order = state_is ps (steps.after w p) (world_in_order w p in_order) ∙ ap (λ (s : State). state_after s ps) (world_state w p in_order)
 
 -- and so is each of their replies
 pub answers_are : (ps : List Piece) (w : World) → HasNumbersInOrder w.layout → AreReplies grammar_parser w.session (state_of w.layout) ps (answers_of steps w ps)
 answers_are [] w in_order = refl
 answers_are (p ∷ ps) w in_order = (
-  (told_in w.layout (read p), refl),
-  subst (λ (s : State). AreReplies grammar_parser (session_by grammar_parser w.session (state_of w.layout) p) s ps (answers_of steps (steps.after w p) ps)) (step_state_by grammar_parser w.layout p in_order)
-      (answers_are ps (steps.after w p) (step_in_order grammar_parser w.layout p in_order)),
+  (told_in w (read p), refl),
+  subst (λ (s : State). AreReplies grammar_parser (session_by grammar_parser w.session (state_of w.layout) p) s ps (answers_of steps (steps.after w p) ps)) (world_state w p in_order)
+      (answers_are ps (steps.after w p) (world_in_order w p in_order)),
 )
 
 pub refusals_are : (ps : List Piece) (w : World) → HasNumbersInOrder w.layout → refusals_of w ps ≡ refusals_by grammar_parser w.session (state_of w.layout) ps
 refusals_are [] w in_order = refl
 refusals_are (p ∷ ps) w in_order =
     ap (λ (n : ℕ). refused_in w p + n)
-    (refusals_are ps (steps.after w p) (step_in_order grammar_parser w.layout p in_order)
-    ∙ ap (λ (s : State). refusals_by grammar_parser (session_by grammar_parser w.session (state_of w.layout) p) s ps) (step_state_by grammar_parser w.layout p in_order))
+    (refusals_are ps (steps.after w p) (world_in_order w p in_order)
+    ∙ ap (λ (s : State). refusals_by grammar_parser (session_by grammar_parser w.session (state_of w.layout) p) s ps) (world_state w p in_order))
 
 -- ---- by the replies
 

@@ -15,7 +15,8 @@ use Rattle.sasi_cql.specs.SplitterState.{resume}
 use Rattle.sasi_layout.specs.Layout.{Layout, state_of}
 use Rattle.sasi_layout.specs.Running.{Crashed, after_pieces, replies_of}
 use Rattle.sasi_layout.specs.Serving.{Ended, closed, known_in_memory}
-use Rattle.sasi_store.specs.Worlds.{HasNoCursor, ServesWorld, World, new_world, steps}
+use Rattle.sasi_store.specs.Cursors.{HasNamesOf}
+use Rattle.sasi_store.specs.Worlds.{ServesWorld, World, new_world, steps}
 use Rattle.sasi_store.specs.StoreView.{IsReady, store_memory}
 use Rattle.sasi_store.specs.declared.store.Store.{Store}
 use Rattle.sasi_run.specs.declared.session.Session.{Session}
@@ -37,10 +38,10 @@ CrashLeavesPieces a b w pieces = (out : List ℕ) → a.emitted ≡ Some out →
 
 -- ---- parts of a run, on every host
 
--- the store has the definitions and the largest timestamp of the state, and no cursor is open in the session
+-- the store has the definitions and the largest timestamp of the state, and open cursors of the names of those of the session
 pub record IsOfState (store : Store) (session : SessionState) (s : State) : Type 0 where
   pub known : IsStateOf (known_in_memory (store_memory store)) s
-  pub cursors : HasNoCursor session
+  pub cursors : HasNamesOf store.session.cursors session
 
 -- From a session and a state that the store was of these pieces were run: their replies were emitted, but for what comes from the files or tells of them, and the store is of those after them.
 pub record RanButStored (session : SessionState) (s : State) (pieces : List Piece) (old new : Session) (a b : View) : Type 0 where

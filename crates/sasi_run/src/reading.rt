@@ -1,8 +1,7 @@
 // The loop over the reads of a script.
 ghost use Rattle.std.specs.Prelude.{◌≡◌, ◌≢◌, IfErr, IfOk, IsErrOf, OnOk, map};
 ghost use Rattle.sasi_host.specs.View.{FailsOnlyAsTold};
-ghost use Rattle.sasi_layout.specs.Classes.{KnowsClasses};
-ghost use Rattle.sasi_store.specs.StoreView.{IsReady, store_memory};
+ghost use Rattle.sasi_store.specs.StoreView.{IsReady, KnowsStore};
 ghost use Rattle.sasi_run.specs.Crashing.{EndsAtRead, FeedsCrashSafe, FeedsRead, RanScript, RunsCrashSafe, StopsWith};
 ghost use Rattle.sasi_run.specs.Session.{IsAtScriptStart};
 ghost use Rattle.sasi_run.specs.Causes.{FailedCalls, IsOfStore, ReportsNow};
@@ -53,12 +52,12 @@ fn feed_bytes<H: Host>(
     bytes: &[u8],
 ) -> Result<(), Status>
     requires ready { IsReady (H.view host.old) session.old.store }
-    requires classes { KnowsClasses (map (λ b. kind (b.vtable, b.value)) kit.old.objects.items) (store_memory session.old.store) }
+    requires classes { KnowsStore (map (λ b. kind (b.vtable, b.value)) kit.old.objects.items) session.old.store }
     ensures ok { OnOk result (FeedsCrashSafe (map (λ b. kind (b.vtable, b.value)) kit.old.objects.items) session.old session.new (H.view host.old) (H.view host.new) bytes.now) }
     ensures err { IfErr result (λ status. StopsWith (map (λ b. kind (b.vtable, b.value)) kit.old.objects.items) status session.old (H.view host.old) (H.view host.new) bytes.now) }
     ensures causes { HostCauses (H.view host.old) (H.view host.new) result }
     ensures told { FailsOnlyAsTold (H.view host.old) (H.view host.new) }
-    ensures classes { OnOk result (KnowsClasses (map (λ b. kind (b.vtable, b.value)) kit.new.objects.items) (store_memory session.new.store)) }
+    ensures classes { OnOk result (KnowsStore (map (λ b. kind (b.vtable, b.value)) kit.new.objects.items) session.new.store) }
     ensures kinds { map (λ b. kind (b.vtable, b.value)) kit.new.objects.items ≡ map (λ b. kind (b.vtable, b.value)) kit.old.objects.items }
 {
     match feed(session, host, kit, bytes) {
@@ -76,14 +75,14 @@ fn read_once<S: Source, H: Host>(
     room: usize,
 ) -> Result<usize, Status>
     requires ready { IsReady (H.view host.old) session.old.store }
-    requires classes { KnowsClasses (map (λ b. kind (b.vtable, b.value)) kit.old.objects.items) (store_memory session.old.store) }
+    requires classes { KnowsStore (map (λ b. kind (b.vtable, b.value)) kit.old.objects.items) session.old.store }
     ensures ok { IfOk result (λ count. FeedsRead (map (λ b. kind (b.vtable, b.value)) kit.old.objects.items) session.old session.new (S.view script.old).left (S.view script.new).left (H.view host.old) (H.view host.new) room count) }
     ensures err { IfErr result (λ status. EndsAtRead (map (λ b. kind (b.vtable, b.value)) kit.old.objects.items) status session.old (S.view script.old).left (S.view script.new).left (H.view host.old) (H.view host.new) room) }
     ensures unread { IsErrOf result Status.ScriptFault → host.new ≡ host.old }
     ensures unfailed { OnOk result (NothingFailed (S.view script.old) (S.view script.new) (H.view host.old) (H.view host.new)) }
     ensures calls { IfErr result (λ status. FailedCalls status (S.view script.old) (S.view script.new) (H.view host.old) (H.view host.new)) }
     ensures damage { IfErr result (λ status. ReportsNow status (H.view host.new)) }
-    ensures classes { OnOk result (KnowsClasses (map (λ b. kind (b.vtable, b.value)) kit.new.objects.items) (store_memory session.new.store)) }
+    ensures classes { OnOk result (KnowsStore (map (λ b. kind (b.vtable, b.value)) kit.new.objects.items) session.new.store) }
     ensures kinds { map (λ b. kind (b.vtable, b.value)) kit.new.objects.items ≡ map (λ b. kind (b.vtable, b.value)) kit.old.objects.items }
 {
     let mut buf = [0; READ_SIZE];
@@ -107,14 +106,14 @@ fn run_script<S: Source, H: Host>(
 ) -> Result<(), Status>
     requires fresh { IsAtScriptStart session.old }
     requires ready { IsReady (H.view host.old) session.old.store }
-    requires classes { KnowsClasses (map (λ b. kind (b.vtable, b.value)) kit.old.objects.items) (store_memory session.old.store) }
+    requires classes { KnowsStore (map (λ b. kind (b.vtable, b.value)) kit.old.objects.items) session.old.store }
     ensures ran { OnOk result (RanScript (map (λ b. kind (b.vtable, b.value)) kit.old.objects.items) session.old session.new (S.view script.old).left (S.view script.new).left (H.view host.old) (H.view host.new)) }
     ensures runs { IfErr result (λ status. RunsCrashSafe (map (λ b. kind (b.vtable, b.value)) kit.old.objects.items) status session.old.store (S.view script.old).left (S.view script.new).left (H.view host.old) (H.view host.new)) }
     ensures unfailed { OnOk result (NothingFailed (S.view script.old) (S.view script.new) (H.view host.old) (H.view host.new)) }
     ensures calls { IfErr result (λ status. FailedCalls status (S.view script.old) (S.view script.new) (H.view host.old) (H.view host.new)) }
     ensures damage { IfErr result (λ status. ReportsNow status (H.view host.new)) }
     ensures of_store { IfErr result IsOfStore }
-    ensures classes { OnOk result (KnowsClasses (map (λ b. kind (b.vtable, b.value)) kit.new.objects.items) (store_memory session.new.store)) }
+    ensures classes { OnOk result (KnowsStore (map (λ b. kind (b.vtable, b.value)) kit.new.objects.items) session.new.store) }
     ensures kinds { map (λ b. kind (b.vtable, b.value)) kit.new.objects.items ≡ map (λ b. kind (b.vtable, b.value)) kit.old.objects.items }
 {
     let mut taken: u64 = 0;
@@ -146,7 +145,7 @@ pub fn run_store<S: Source, H: Host>(
     kit: &mut Kit,
 ) -> Status
     requires ready { IsReady (H.view host.old) store }
-    requires classes { KnowsClasses (map (λ b. kind (b.vtable, b.value)) kit.old.objects.items) (store_memory store) }
+    requires classes { KnowsStore (map (λ b. kind (b.vtable, b.value)) kit.old.objects.items) store }
     ensures runs { RunsCrashSafe (map (λ b. kind (b.vtable, b.value)) kit.old.objects.items) result store (S.view script.old).left (S.view script.new).left (H.view host.old) (H.view host.new) }
     ensures calls { FailedCalls result (S.view script.old) (S.view script.new) (H.view host.old) (H.view host.new) }
     ensures damage { ReportsNow result (H.view host.new) }

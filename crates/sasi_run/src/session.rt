@@ -1,13 +1,12 @@
 // A session: a run between two reads of its script.
 ghost use Rattle.std.specs.Prelude.{◌≡◌, OnErr, OnOk, IfErr, map, ◌∷◌, []};
 ghost use Rattle.sasi_host.specs.View.{AllOut, Emits, FailsOnlyAsTold, OutCauses, counted};
-ghost use Rattle.sasi_layout.specs.Classes.{KnowsClasses};
 ghost use Rattle.sasi_layout.specs.Layout.{state_of};
 ghost use Rattle.sasi_store.specs.Worlds.{ServesWorld, World};
 ghost use Rattle.sasi_model.specs.Pieces.{piece_of};
 ghost use Rattle.sasi_cql.specs.SplitterState.{resume};
 ghost use Rattle.sasi_store.specs.Answers.{NeedsNoFile};
-ghost use Rattle.sasi_store.specs.StoreView.{IsReady, store_memory};
+ghost use Rattle.sasi_store.specs.StoreView.{IsReady, KnowsStore};
 ghost use Rattle.sasi_run.specs.declared.session.Stop.TheVariants.{Memory, Output};
 ghost use Rattle.sasi_run.specs.Crashing.{AnswersCrashSafe, FailsCrashSafe, FinishesCrashSafe, StopsCrashSafe, FeedsCrashSafe};
 ghost use Rattle.sasi_run.specs.FileCalls.{emits_after};
@@ -107,13 +106,13 @@ pub fn answer<H: Host>(
     end: PieceEnd,
 ) -> Result<(), Stop>
     requires ready { IsReady (H.view host.old) session.old.store }
-    requires classes { KnowsClasses (map (λ b. kind (b.vtable, b.value)) kit.old.objects.items) (store_memory session.old.store) }
+    requires classes { KnowsStore (map (λ b. kind (b.vtable, b.value)) kit.old.objects.items) session.old.store }
     ensures ok { OnOk result (AnswersCrashSafe (map (λ b. kind (b.vtable, b.value)) kit.old.objects.items) session.old session.new (H.view host.old) (H.view host.new) (piece_of end session.old.splitter.text)) }
     ensures err { IfErr result (λ stop. FailsCrashSafe (map (λ b. kind (b.vtable, b.value)) kit.old.objects.items) stop session.old (H.view host.old) (H.view host.new) (piece_of end session.old.splitter.text ∷ [])) }
     ensures no_file_call { (w : World) → ServesWorld (H.view host.old) session.old.store w → NeedsNoFile w.session (state_of w.layout) (piece_of end session.old.splitter.text) → (H.view host.new).calls ≡ (H.view host.old).calls }
     ensures causes { Faults (H.view host.old) (H.view host.new) result }
     ensures told { FailsOnlyAsTold (H.view host.old) (H.view host.new) }
-    ensures classes { OnOk result (KnowsClasses (map (λ b. kind (b.vtable, b.value)) kit.new.objects.items) (store_memory session.new.store)) }
+    ensures classes { OnOk result (KnowsStore (map (λ b. kind (b.vtable, b.value)) kit.new.objects.items) session.new.store) }
     ensures kinds { map (λ b. kind (b.vtable, b.value)) kit.new.objects.items ≡ map (λ b. kind (b.vtable, b.value)) kit.old.objects.items }
 {
     let outcome = session.store.step(host, kit, session.splitter.piece(), end, &mut session.reply)?;
@@ -130,12 +129,12 @@ fn feed_byte<H: Host>(
     byte: u8,
 ) -> Result<(), Stop>
     requires ready { IsReady (H.view host.old) session.old.store }
-    requires classes { KnowsClasses (map (λ b. kind (b.vtable, b.value)) kit.old.objects.items) (store_memory session.old.store) }
+    requires classes { KnowsStore (map (λ b. kind (b.vtable, b.value)) kit.old.objects.items) session.old.store }
     ensures ok { OnOk result (FeedsCrashSafe (map (λ b. kind (b.vtable, b.value)) kit.old.objects.items) session.old session.new (H.view host.old) (H.view host.new) (byte ∷ [])) }
     ensures err { IfErr result (λ stop. StopsCrashSafe (map (λ b. kind (b.vtable, b.value)) kit.old.objects.items) stop session.old (H.view host.old) (H.view host.new) (byte ∷ [])) }
     ensures causes { Faults (H.view host.old) (H.view host.new) result }
     ensures told { FailsOnlyAsTold (H.view host.old) (H.view host.new) }
-    ensures classes { OnOk result (KnowsClasses (map (λ b. kind (b.vtable, b.value)) kit.new.objects.items) (store_memory session.new.store)) }
+    ensures classes { OnOk result (KnowsStore (map (λ b. kind (b.vtable, b.value)) kit.new.objects.items) session.new.store) }
     ensures kinds { map (λ b. kind (b.vtable, b.value)) kit.new.objects.items ≡ map (λ b. kind (b.vtable, b.value)) kit.old.objects.items }
 {
     let _refused = session.refused;
@@ -153,12 +152,12 @@ pub fn feed<H: Host>(
     bytes: &[u8],
 ) -> Result<(), Stop>
     requires ready { IsReady (H.view host.old) session.old.store }
-    requires classes { KnowsClasses (map (λ b. kind (b.vtable, b.value)) kit.old.objects.items) (store_memory session.old.store) }
+    requires classes { KnowsStore (map (λ b. kind (b.vtable, b.value)) kit.old.objects.items) session.old.store }
     ensures ok { OnOk result (FeedsCrashSafe (map (λ b. kind (b.vtable, b.value)) kit.old.objects.items) session.old session.new (H.view host.old) (H.view host.new) bytes.now) }
     ensures err { IfErr result (λ stop. StopsCrashSafe (map (λ b. kind (b.vtable, b.value)) kit.old.objects.items) stop session.old (H.view host.old) (H.view host.new) bytes.now) }
     ensures causes { Faults (H.view host.old) (H.view host.new) result }
     ensures told { FailsOnlyAsTold (H.view host.old) (H.view host.new) }
-    ensures classes { OnOk result (KnowsClasses (map (λ b. kind (b.vtable, b.value)) kit.new.objects.items) (store_memory session.new.store)) }
+    ensures classes { OnOk result (KnowsStore (map (λ b. kind (b.vtable, b.value)) kit.new.objects.items) session.new.store) }
     ensures kinds { map (λ b. kind (b.vtable, b.value)) kit.new.objects.items ≡ map (λ b. kind (b.vtable, b.value)) kit.old.objects.items }
 {
     for byte in bytes {
@@ -170,12 +169,12 @@ pub fn feed<H: Host>(
 /// Runs the piece that the script's end cuts off, if there is one.
 pub fn finish<H: Host>(session: &mut Session, host: &mut H, kit: &mut Kit) -> Result<(), Stop>
     requires ready { IsReady (H.view host.old) session.old.store }
-    requires classes { KnowsClasses (map (λ b. kind (b.vtable, b.value)) kit.old.objects.items) (store_memory session.old.store) }
+    requires classes { KnowsStore (map (λ b. kind (b.vtable, b.value)) kit.old.objects.items) session.old.store }
     ensures ok { OnOk result (FinishesCrashSafe (map (λ b. kind (b.vtable, b.value)) kit.old.objects.items) session.old session.new (H.view host.old) (H.view host.new)) }
     ensures err { IfErr result (λ stop. FailsCrashSafe (map (λ b. kind (b.vtable, b.value)) kit.old.objects.items) stop session.old (H.view host.old) (H.view host.new) (resume session.old.splitter []).last) }
     ensures causes { Faults (H.view host.old) (H.view host.new) result }
     ensures told { FailsOnlyAsTold (H.view host.old) (H.view host.new) }
-    ensures classes { OnOk result (KnowsClasses (map (λ b. kind (b.vtable, b.value)) kit.new.objects.items) (store_memory session.new.store)) }
+    ensures classes { OnOk result (KnowsStore (map (λ b. kind (b.vtable, b.value)) kit.new.objects.items) session.new.store) }
     ensures kinds { map (λ b. kind (b.vtable, b.value)) kit.new.objects.items ≡ map (λ b. kind (b.vtable, b.value)) kit.old.objects.items }
 {
     let _refused = session.refused;

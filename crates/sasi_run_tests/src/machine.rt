@@ -1,6 +1,7 @@
 // The tables in memory alone.
 use sasi_machine::{Machine, Outcome, Reply};
 use sasi_types::{Partitioner, PieceEnd};
+use std::alloc::Global;
 use std::process::Abort;
 
 /// The machine answers a piece with this outcome and this reply.
@@ -100,50 +101,194 @@ fn rows_in_memory_end_at_the_limit(rt: HostRuntime) {
     check_limit(&rt, &mut machine, &mut reply);
 }
 
-// An OPEN whose SELECT has 33 relations.
-const MANY_RELATIONS: &[u8] = b"OPEN c AS SELECT k FROM t WHERE \
-    a>0 AND a>0 AND a>0 AND a>0 AND a>0 AND a>0 AND a>0 AND a>0 AND a>0 AND a>0 AND a>0 AND \
-    a>0 AND a>0 AND a>0 AND a>0 AND a>0 AND a>0 AND a>0 AND a>0 AND a>0 AND a>0 AND a>0 AND \
-    a>0 AND a>0 AND a>0 AND a>0 AND a>0 AND a>0 AND a>0 AND a>0 AND a>0 AND a>0 AND a>0 ALLOW FILTERING;";
-
-/// Statements on cursors, of which none is open. The rules of their SELECT and of the number of rows come before those of cursors.
-fn check_cursors(rt: &impl Abort, machine: &mut Machine, reply: &mut Reply) {
-    let create = b"CREATE TABLE t (k text PRIMARY KEY, a int);";
-    check_step(rt, machine, reply, create, Outcome::Done, "ok\n");
-    for (piece, number, want) in [
-        (
-            b"OPEN c AS SELECT * FROM u;".as_slice(),
-            4,
-            "error 4 NoTable u\n",
-        ),
-        (
-            b"OPEN c AS SELECT * FROM t LIMIT 0;".as_slice(),
-            9,
-            "error 9 NumberRange LIMIT\n",
-        ),
-        (MANY_RELATIONS, 24, "error 24 TooMany relations 32\n"),
-        (
-            b"OPEN c AS SELECT * FROM t;".as_slice(),
-            90,
-            "error 90 NotBuilt\n",
-        ),
-        (
-            b"FETCH 0 FROM c;".as_slice(),
-            9,
-            "error 9 NumberRange FETCH\n",
-        ),
-        (b"FETCH 1 FROM c;".as_slice(), 23, "error 23 NoCursor c\n"),
-        (b"CLOSE c;".as_slice(), 23, "error 23 NoCursor c\n"),
-    ] {
-        check_step(rt, machine, reply, piece, Outcome::Refused(number), want);
+/// Runs pieces, each on a line of its own, and adds their replies to those before.
+fn run_lines(rt: &impl Abort, machine: &mut Machine, replies: &mut Vec<u8>, pieces: &str) {
+    let mut reply = Reply::new(*replies.allocator());
+    for piece in pieces.lines() {
+        machine
+            .step(piece.as_bytes(), PieceEnd::Whole, &mut reply)
+            .expect(rt, "memory");
+        replies
+            .extend_from_slice(reply.bytes())
+            .expect(rt, "memory");
     }
 }
 
+/// A new machine answers these pieces with these replies.
+fn check_lines(rt: &impl Abort, alloc: Global, pieces: &str, want: &str) {
+    let mut machine = Machine::new(alloc, Partitioner::Lead8);
+    let mut replies = Vec::new(alloc);
+    run_lines(rt, &mut machine, &mut replies, pieces);
+    assert!(rt; replies.as_slice() == want.as_bytes());
+}
+
+/// Statements on cursors where none is open. The rules of their SELECT and of the number of rows come before those of cursors.
+const NONE_OPEN: &str = "\
+CREATE TABLE t (k text PRIMARY KEY, a int);
+OPEN c AS SELECT * FROM u;
+OPEN c AS SELECT * FROM t LIMIT 0;
+OPEN c AS SELECT k FROM t WHERE a>0 AND a>0 AND a>0 AND a>0 AND a>0 AND a>0 AND a>0 AND a>0 AND a>0 AND a>0 AND a>0 AND a>0 AND a>0 AND a>0 AND a>0 AND a>0 AND a>0 AND a>0 AND a>0 AND a>0 AND a>0 AND a>0 AND a>0 AND a>0 AND a>0 AND a>0 AND a>0 AND a>0 AND a>0 AND a>0 AND a>0 AND a>0 AND a>0 ALLOW FILTERING;
+FETCH 0 FROM c;
+FETCH 1 FROM c;
+CLOSE c;
+OPEN c AS SELECT * FROM t;
+";
+
+const NONE_OPEN_REPLIES: &str = "\
+ok
+error 4 NoTable u
+error 9 NumberRange LIMIT
+error 24 TooMany relations 32
+error 9 NumberRange FETCH
+error 23 NoCursor c
+error 23 NoCursor c
+ok
+";
+
 #[test]
-fn cursors_in_memory_are_not_there(rt: HostRuntime) {
-    let mut machine = Machine::new(rt.alloc(), Partitioner::Lead8);
-    let mut reply = Reply::new(rt.alloc());
-    check_cursors(&rt, &mut machine, &mut reply);
+fn cursor_in_memory_is_refused_by_its_rules(rt: HostRuntime) {
+    check_lines(&rt, rt.alloc(), NONE_OPEN, NONE_OPEN_REPLIES);
+}
+
+/// Rows that are fetched in pieces, while their table changes.
+const FETCHED: &str = "\
+CREATE TABLE t (k text PRIMARY KEY, n int);
+INSERT INTO t (k, n) VALUES ('k1', 1);
+INSERT INTO t (k, n) VALUES ('k2', 2);
+INSERT INTO t (k, n) VALUES ('k3', 3);
+OPEN c AS SELECT * FROM t;
+FETCH 2 FROM c;
+UPDATE t SET n = 4 WHERE k = 'k3';
+INSERT INTO t (k, n) VALUES ('k4', 5);
+FETCH 2 FROM c;
+FETCH 2147483647 FROM c;
+SELECT * FROM t WHERE n > 2 ALLOW FILTERING;
+CLOSE c;
+FETCH 1 FROM c;
+";
+
+const FETCHED_REPLIES: &str = "\
+ok
+ok
+ok
+ok
+ok
+'k1' | 1
+'k2' | 2
+(2 rows)
+ok
+ok
+'k3' | 3
+(1 rows)
+(0 rows)
+'k3' | 4
+'k4' | 5
+(2 rows)
+ok
+error 23 NoCursor c
+";
+
+#[test]
+fn cursor_in_memory_keeps_its_rows(rt: HostRuntime) {
+    check_lines(&rt, rt.alloc(), FETCHED, FETCHED_REPLIES);
+}
+
+/// Two cursors, each with rows of its own. A name is taken until its cursor is closed, also where all its rows were given.
+const NAMED: &str = "\
+CREATE TABLE t (k text PRIMARY KEY);
+INSERT INTO t (k) VALUES ('k1');
+OPEN c AS SELECT * FROM t;
+INSERT INTO t (k) VALUES ('k2');
+OPEN d AS SELECT * FROM t LIMIT 2;
+FETCH 1 FROM c;
+FETCH 1 FROM c;
+OPEN c AS SELECT * FROM t;
+OPEN c AS SELECT * FROM u;
+CLOSE c;
+FETCH 1 FROM d;
+OPEN C AS SELECT * FROM t;
+FETCH 3 FROM d;
+FETCH 3 FROM c;
+";
+
+const NAMED_REPLIES: &str = "\
+ok
+ok
+ok
+ok
+ok
+'k1'
+(1 rows)
+(0 rows)
+error 22 CursorExists c
+error 4 NoTable u
+ok
+'k1'
+(1 rows)
+ok
+'k2'
+(1 rows)
+'k1'
+'k2'
+(2 rows)
+";
+
+#[test]
+fn name_of_a_cursor_in_memory_is_taken_until_it_is_closed(rt: HostRuntime) {
+    check_lines(&rt, rt.alloc(), NAMED, NAMED_REPLIES);
+}
+
+/// An OPEN of one cursor more than there may be, until one is closed. The rule of its name comes first, and that of the number of relations last.
+const FULL: &str = "\
+OPEN d AS SELECT * FROM t;
+OPEN c7 AS SELECT * FROM t;
+OPEN d AS SELECT k FROM t WHERE a>0 AND a>0 AND a>0 AND a>0 AND a>0 AND a>0 AND a>0 AND a>0 AND a>0 AND a>0 AND a>0 AND a>0 AND a>0 AND a>0 AND a>0 AND a>0 AND a>0 AND a>0 AND a>0 AND a>0 AND a>0 AND a>0 AND a>0 AND a>0 AND a>0 AND a>0 AND a>0 AND a>0 AND a>0 AND a>0 AND a>0 AND a>0 AND a>0 ALLOW FILTERING;
+CLOSE c63;
+OPEN d AS SELECT k FROM t WHERE a>0 AND a>0 AND a>0 AND a>0 AND a>0 AND a>0 AND a>0 AND a>0 AND a>0 AND a>0 AND a>0 AND a>0 AND a>0 AND a>0 AND a>0 AND a>0 AND a>0 AND a>0 AND a>0 AND a>0 AND a>0 AND a>0 AND a>0 AND a>0 AND a>0 AND a>0 AND a>0 AND a>0 AND a>0 AND a>0 AND a>0 AND a>0 AND a>0 ALLOW FILTERING;
+OPEN d AS SELECT * FROM t;
+";
+
+const FULL_REPLIES: &str = "\
+error 24 TooMany cursors 64
+error 22 CursorExists c7
+error 24 TooMany cursors 64
+ok
+error 24 TooMany relations 32
+ok
+";
+
+/// Opens a cursor under the letter c and a number.
+fn open_numbered(rt: &impl Abort, alloc: Global, machine: &mut Machine, number: u32) {
+    let piece = format!(in alloc; "OPEN c{number} AS SELECT * FROM t;").expect(rt, "memory");
+    let mut reply = Reply::new(alloc);
+    check_step(
+        rt,
+        machine,
+        &mut reply,
+        piece.as_bytes(),
+        Outcome::Done,
+        "ok\n",
+    );
+}
+
+/// A machine with as many cursors as there may be.
+fn full_machine(rt: &impl Abort, alloc: Global) -> Machine {
+    let mut machine = Machine::new(alloc, Partitioner::Lead8);
+    let mut reply = Reply::new(alloc);
+    let create = b"CREATE TABLE t (k text PRIMARY KEY, a int);";
+    check_step(rt, &mut machine, &mut reply, create, Outcome::Done, "ok\n");
+    for number in 0..64 {
+        open_numbered(rt, alloc, &mut machine, number);
+    }
+    machine
+}
+
+#[test]
+fn cursors_in_memory_are_few(rt: HostRuntime) {
+    let mut machine = full_machine(&rt, rt.alloc());
+    let mut replies = Vec::new(rt.alloc());
+    run_lines(&rt, &mut machine, &mut replies, FULL);
+    assert!(rt; replies.as_slice() == FULL_REPLIES.as_bytes());
 }
 
 #[test]

@@ -1,8 +1,7 @@
 // What a store says of its steps.
 ghost use Rattle.std.specs.Prelude.{map};
 ghost use Rattle.sasi_host.specs.Memory.{host_view, memory_host};
-ghost use Rattle.sasi_layout.specs.Classes.{KnowsClasses};
-ghost use Rattle.sasi_store.specs.StoreView.{IsReady, store_memory};
+ghost use Rattle.sasi_store.specs.StoreView.{IsReady, KnowsStore};
 
 use sasi_analyzers::Kit;
 use sasi_host::MemHost;
@@ -16,7 +15,7 @@ use std::process::Abort;
 /// table is recorded by four.
 fn opened(rt: &impl Abort, alloc: Global, host: &mut MemHost, kit: &mut Kit) -> Store
     ensures ready { IsReady (host_view (memory_host host.new)) result }
-    ensures classes { KnowsClasses (map (λ b. kind (b.vtable, b.value)) kit.new.objects.items) (store_memory result) }
+    ensures classes { KnowsStore (map (λ b. kind (b.vtable, b.value)) kit.new.objects.items) result }
 {
     host.stop_after(17);
     match Store::open(alloc, host, kit, None) {
@@ -34,7 +33,7 @@ fn check_steps(
     reply: &mut Reply,
 )
     requires ready { IsReady (host_view (memory_host host.old)) store.old }
-    requires classes { KnowsClasses (map (λ b. kind (b.vtable, b.value)) kit.old.objects.items) (store_memory store.old) }
+    requires classes { KnowsStore (map (λ b. kind (b.vtable, b.value)) kit.old.objects.items) store.old }
 {
     assert!(rt; store.steps() == 0 && store.is_usable());
     let create = b"CREATE TABLE t (k int PRIMARY KEY);";

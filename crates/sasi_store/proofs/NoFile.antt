@@ -1,20 +1,26 @@
 -- Pieces that need no file: what makes a call on the host is none of them.
-use Rattle.std.proofs.Common.{◌≡◌, List, ℕ, Option, None, Some, IsSome, inl, inr, sym, subst, ◌∙◌}
-use Rattle.sasi_machine.proofs.SessionTurns.{TurnsSession, created_leaves, defined_leaves, flushed_leaves, selected_turns, written_leaves}
+use Rattle.std.proofs.Common.{◌≡◌, List, ℕ, Bool, true, false, Option, None, Some, IsSome, inl, inr, refl, sym, ap, subst, ◌∙◌}
+use Rattle.std.specs.List.{list_any}
+use Rattle.sasi_cursors.specs.Cursors.{is_open}
+use Rattle.sasi_machine.proofs.SessionTurns.{TurnsSession, created_leaves, defined_leaves, fetched_turns, flushed_leaves, selected_turns, written_leaves}
 use Rattle.sasi_machine.specs.Outcome.{outcome_of}
-use Rattle.sasi_machine.specs.Prepares.{CreatesTable, DefinesIndex, FlushesTable, Prepares, SaysOne, SelectsRows, WritesTo}
+use Rattle.sasi_machine.specs.Prepares.{CreatesTable, DefinesIndex, FetchesRows, FlushesTable, Prepares, SaysOne, SelectsRows, WritesTo}
 use Rattle.sasi_machine.specs.Writes.{IsWriting}
 use Rattle.sasi_machine.specs.declared.outcome.Outcome.TheVariants.{Done}
+use Rattle.sasi_machine.specs.declared.prepared.FetchAsked.{FetchAsked}
 use Rattle.sasi_machine.specs.declared.prepared.Prepared.{Prepared}
 use Rattle.sasi_machine.specs.declared.prepared.Prepared.TheVariants.{Answered, Create, Define, Write as Writes, Flush as Flushes, Select as Selects, Trace as Traces, Files as ListsFiles, Open as Opens, Fetch as Fetches, Close as Closes}
+use Rattle.sasi_model.specs.Parsers.{grammar_parser}
 use Rattle.sasi_model.specs.Pieces.{Piece}
 use Rattle.sasi_model.specs.Refusals.{Nothing, Refusal, Says}
-use Rattle.sasi_model.specs.Sessions.{SessionState, Tail, Turn}
+use Rattle.sasi_model.specs.Sessions.{SessionState, Tail, Turn, refused_by}
 use Rattle.sasi_model.specs.State.{State}
 use Rattle.sasi_model.specs.Step.{step}
+use Rattle.sasi_model.specs.Tokens.{same}
 use Rattle.sasi_types.specs.declared.statement.Statement.{Statement}
-use Rattle.sasi_types.specs.declared.statement.Statement.TheVariants.{CreateTable, CreateIndex, Insert, Update, Delete, Query, Flush}
+use Rattle.sasi_types.specs.declared.statement.Statement.TheVariants.{CreateTable, CreateIndex, Fetch, Insert, Update, Delete, Query, Flush}
 use Rattle.sasi_store.specs.Answers.{AsksNoFile, NeedsNoFile}
+use Rattle.sasi_store.specs.Cursors.{HasNamesOf, Opened}
 
 -- what is prepared makes calls on the host
 abbrev pub UsesHost : Prepared → Type 0
@@ -75,3 +81,28 @@ module _ (x : SessionState) (s : State) (piece : Piece) where
       other : (statement : Statement) → SelectsRows s statement rows → AsksNoFile (Says statement) → ⊥
       other (Query select) is asks = asks
       other statement is asks = absurd is
+
+  -- a FETCH that needs no file is of a name that isn't open
+  pub fetch_free : (cursors : Opened) (reply : List ℕ) (asked : FetchAsked) → HasNamesOf cursors x → Prepares s piece reply (Fetches asked) → NeedsNoFile x s piece → is_open asked.cursor cursors ≡ false
+  fetch_free cursors reply asked named prepares needs = by (is_open asked.cursor cursors) refl
+    where
+      fetches : SaysOne piece (λ statement. FetchesRows s statement asked)
+      fetches = prepares.2
+
+      says_fetch : (statement : Statement) → FetchesRows s statement asked → AsksNoFile (Says statement) → ⊥
+      says_fetch (Fetch cursor count) is asks = asks
+      says_fetch statement is asks = absurd is
+
+      none_some : (o : Option Refusal) → o ≡ None → IsSome o → ⊥
+      none_some None is some = cc
+      none_some (Some r) is some = cc
+
+      taken : is_open asked.cursor cursors ≡ true → NeedsNoFile x s piece → ⊥
+      taken there (inl refused) =
+          none_some (refused_by grammar_parser x s piece) (ap (λ (t : Turn). t.refused) (fetched_turns s piece asked fetches x (ap (list_any (same asked.cursor)) (sym named) ∙ there))) refused
+      taken there (inr (inl nothing)) = nothing_said (sym nothing ∙ fetches.1)
+      taken there (inr (inr asks)) = says_fetch fetches.0 fetches.3 (subst AsksNoFile fetches.1 asks)
+
+      by : (b : Bool) → is_open asked.cursor cursors ≡ b → b ≡ false
+      by false is = refl
+      by true there = absurd (taken there needs)

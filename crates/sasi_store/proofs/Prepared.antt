@@ -19,7 +19,9 @@ use Rattle.sasi_host.specs.View.{View}
 use Rattle.sasi_layout.specs.NumbersInOrder.{HasIndexesNumbered}
 use Rattle.sasi_layout.specs.Serving.{CanChange, known_in_memory}
 use Rattle.sasi_machine.proofs.KnownStates.{definitions_are, knows}
-use Rattle.sasi_machine.specs.Prepares.{CreatesTable, DefinesIndex, HasRows, HasTable, IsApplicable, IsQuery, IsSelect, IsStateOf, IsTimeless, Prepares, asked_by}
+use Rattle.sasi_machine.proofs.CursorTurns.{opens_from}
+use Rattle.sasi_machine.specs.Prepares.{CreatesTable, DefinesIndex, HasRows, HasTable, IsApplicable, IsQuery, IsSelect, IsStateOf, IsTimeless, OpensCursor, Prepares, SaysOne, asked_by}
+use Rattle.sasi_machine.specs.declared.prepared.OpenAsked.{OpenAsked}
 use Rattle.sasi_machine.specs.declared.prepared.Prepared.{Prepared}
 use Rattle.sasi_machine.specs.declared.prepared.Prepared.TheVariants.{Create, Define, Write as Writes}
 use Rattle.sasi_machine.specs.declared.prepared.Selection.{Selection}
@@ -54,6 +56,7 @@ use Rattle.sasi_types.specs.declared.partitioner.Partitioner.{Partitioner}
 use Rattle.sasi_types.specs.declared.statement.Statement.{Statement}
 use Rattle.sasi_types.specs.declared.statement.Statement.TheVariants.{CreateIndex, CreateTable}
 use Rattle.sasi_tables.specs.Puts.{HasTableFor}
+use Rattle.sasi_store.specs.CursorCalls.{CanOpenOn}
 use Rattle.sasi_store.specs.Selects.{IsSelectable}
 use Rattle.sasi_tables.specs.TablesView.{held_in, memory_of}
 use Rattle.sasi_tables.specs.Writable.{IsCreatable, IsDefinable, IsWritableMutation}
@@ -148,6 +151,17 @@ module _ (v : View) (p : Parts) (ready : CanChange v (memory_of p)) where
     there = ap (λ (ds : List Definition). slice_get ds (rows.table - 1)) (sym blank_definitions) ∙ map_there (λ (t : model.Table). t.definition) blank.tables (rows.table - 1) has.table has.there;
     can = has.can;
   }
+
+  -- **A cursor that is prepared can be opened**, unless a rule of cursors refuses it.
+  pub openable : (asked : OpenAsked) (piece : Piece) → SaysOne piece (λ statement. OpensCursor blank statement asked) → CanOpenOn (memory_of p) asked.rows
+  openable asked piece says =
+      let opens = opens_from blank piece asked says in
+      record {
+        some = opens.some;
+        definition = opens.table.definition;
+        there = ap (λ (ds : List Definition). slice_get ds (asked.rows.table - 1)) (sym blank_definitions) ∙ map_there (λ (t : model.Table). t.definition) blank.tables (asked.rows.table - 1) opens.table opens.there;
+        can = opens.can;
+      }
 
 -- ---- a write
 

@@ -18,8 +18,9 @@ use Rattle.sasi_model.specs.Conditions.{Condition, condition_of}
 use Rattle.sasi_model.specs.Filters.{Filter, answers, key_asked, limited, row_limit, rows_up_to, where_of}
 use Rattle.sasi_model.specs.Lines.{rows_lines}
 use Rattle.sasi_model.specs.State.{Definition, Table}
-use Rattle.sasi_model.specs.Step.{select_lines}
-use Rattle.sasi_machine.proofs.Picked.{lines_by_numbers}
+use Rattle.sasi_model.specs.Step.{select_lines, select_rows}
+use Rattle.sasi_machine.proofs.Picked.{lines_by_numbers, selected_by_numbers}
+use Rattle.sasi_machine.specs.Prepares as prepares
 use Rattle.sasi_machine.specs.Prepares.{answer_rows}
 use Rattle.sasi_machine.specs.TableRows.{rows_picked}
 use Rattle.sasi_machine.specs.declared.prepared.Selection.{Selection}
@@ -160,7 +161,16 @@ module _ (v : View) (sound : IsSound v) (p : Parts) (of : IsOfParts p) (ready : 
   abbrev pub rows_asked : List (List ℕ × Partition)
   rows_asked = map row_of (answer plan.limit wanted (merged (maps_of (parts_of t))))
 
-  -- **They are those of the SELECT.**
+  -- **As they are picked they are those that the SELECT has,**
+  pub rows_have : map (row_picked plan.picked) rows_asked ≡ prepares.rows_asked (state_of l) rows
+  rows_have =
+      rows_limited plan.picked wanted plan.limit (entries (merged (maps_of (parts_of t))))
+      ∙ selected_by_numbers d rows.select plan.picked.key plan.picked.columns plan.conditions plan.limit (entries (merged (maps_of (parts_of t)))) is.row.table.key_is_there is.key is.columns is.conditions is.limit
+      ∙ ap (λ (m : Partitions). select_rows d rows.select (entries m)) (sym (merged_table t))
+      ∙ ap (λ (x : Definition). select_rows x rows.select (entries (table_of t).partitions)) (sym t_defined)
+      ∙ sym (ap (λ (o : Option Table). option_map_or (λ (x : Table). select_rows x.definition rows.select (entries x.partitions)) o []) (map_there table_of l.tables at t table.1))
+
+  -- **and their lines are its lines.**
   pub rows_are : picked_lines plan.picked rows_asked ≡ answer_rows (state_of l) rows
   rows_are =
       ap rows_lines (rows_limited plan.picked wanted plan.limit (entries (merged (maps_of (parts_of t)))))

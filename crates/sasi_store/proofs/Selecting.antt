@@ -1,5 +1,5 @@
 -- A SELECT over the table of a store: its plan.
-use Rattle.std.proofs.Common.{◌≡◌, ◌<◌, ◌≤◌, ◌-◌, ℕ, List, length, map, get_or, slice_get, Some, sym, ap, subst, ◌∙◌, arith}
+use Rattle.std.proofs.Common.{◌≡◌, ◌<◌, ◌≤◌, ◌-◌, ℕ, List, length, map, get_or, slice_get, Some, refl, sym, ap, subst, ◌∙◌, arith}
 use Rattle.std.proofs.lemmas.List.{length-map}
 use Rattle.std.specs.List.{AllByRecursion}
 use Rattle.sasi_host.specs.Damages.{OnDamage}
@@ -9,6 +9,7 @@ use Rattle.sasi_host.specs.declared.fault.ReadFault.TheVariants as read
 use Rattle.sasi_host.specs.View.{View}
 use Rattle.sasi_layout.specs.Serving.{CanChange}
 use Rattle.sasi_layout.specs.Classes.{KnowsClasses}
+use Rattle.sasi_machine.specs.Classes as kit_faults
 use Rattle.sasi_machine.specs.Classes.{TableLacks}
 use Rattle.sasi_machine.specs.Operands.{CanSelect}
 use Rattle.sasi_machine.specs.Picks.{pick}
@@ -26,6 +27,8 @@ use Rattle.sasi_engine.specs.Asked.{asked_of}
 use Rattle.sasi_plan.specs.Plans.{IsAskedOf, IsSourceOf, PlanView}
 use Rattle.sasi_schema.specs.Defined.{definition}
 use Rattle.sasi_types.specs.declared.class.Class.{Class}
+use Rattle.sasi_types.specs.declared.kit_fault.KitFault.{KitFault}
+use Rattle.sasi_types.specs.declared.kit_fault.KitFault.TheVariants as kit_fault
 use Rattle.sasi_types.specs.declared.partitioner.Partitioner.{Partitioner}
 use Rattle.sasi_tables.specs.Faults.{OnStepDamage, fault_of_read}
 use Rattle.sasi_tables.specs.Held.{held_by}
@@ -42,6 +45,11 @@ pub on_damage : (P Q : Damage → Type 0) → ((damage : Damage) → P damage �
 on_damage P Q follows read.Failed is = tt
 on_damage P Q follows read.OutOfMemory is = tt
 on_damage P Q follows (read.Damaged damage) is = follows damage is
+
+-- where no class is missing, memory ran out
+pub only_memory : (P : Class → Type 0) (f : KitFault) → kit_faults.OnMissing P f → ((class : Class) → P class → ⊥) → f ≡ kit_fault.OutOfMemory
+only_memory P kit_fault.OutOfMemory missing none = refl
+only_memory P (kit_fault.Missing class) missing none = absurd (none class missing)
 
 there_one : {A : Type 0} (x y : A) → Some x ≡ Some y → x ≡ y
 there_one x y e = cc

@@ -19,7 +19,12 @@ use Rattle.sasi_types.specs.declared.statement.Statement.{Statement}
 use Rattle.sasi_types.specs.declared.statement.Statement.TheVariants.{ShowFiles}
 use Rattle.sasi_store.specs.Steps.{StepPromises}
 use Rattle.sasi_tables.specs.TablesView.{memory_of}
-use Rattle.sasi_store.specs.Worlds.{HasNoCursor, file_texts, told_in}
+use Rattle.sasi_host.specs.declared.name.FileName.{FileName}
+use Rattle.sasi_layout.specs.FileNames.{file_names}
+use Rattle.sasi_store.specs.Cursors.{AreCursors, AreCursorsOf, HasNamesOf, counted_texts}
+use Rattle.sasi_store.proofs.CountedFiles.{texts_pinned}
+use Rattle.sasi_store.proofs.PlainPieces.{IsPlain, plain_moves, plain_views, says_plain}
+use Rattle.sasi_store.specs.Worlds.{current_texts, file_texts, told_in}
 use Rattle.sasi_tables.specs.declared.parts.Parts.{Parts}
 use Rattle.sasi_store.specs.declared.session_state.SessionState.{SessionState as StoreSession}
 use Rattle.sasi_store.proofs.Stepping.{state_is, step_quiet, turn_taken}
@@ -31,27 +36,38 @@ shows_files s piece (statement, says, in_order, asked) = subst IsShowFiles (sym 
     by ShowFiles asked = tt
     by statement asked = absurd asked
 
+plain_files : (s : State) (statement : Statement) → AsksFiles s statement → IsPlain (Says statement)
+plain_files s ShowFiles asked = tt
+plain_files s statement asked = absurd asked
+
 -- **SHOW FILES leaves the session and the store**, and its reply is that of each world's step.
-pub step_listed : {was : StoreSession} (kinds : List Class) (v : View) (sound : IsSound v) (old : Parts) (piece : Piece) (front reply : List ℕ) → CanChange v (memory_of old) → asks (known_in_memory (memory_of old)) piece ≡ ask.NoChange
+pub step_listed : {was : StoreSession} (kinds : List Class) (v : View) (sound : IsSound v) (old : Parts) (piece : Piece) (front reply : List ℕ) → CanChange v (memory_of old) → asks (known_in_memory (memory_of old)) piece ≡ ask.NoChange → AreCursors v.files old was
     → ((s : State) → IsStateOf (known_in_memory (memory_of old)) s → StepsTo s piece s front Done × (front ≡ []) × SaysOne piece (AsksFiles s))
-    → ((l : Layout) → old.manifest.listing ≡ listing_of l → reply ≡ front ++ files_lines (file_texts l)) → StepPromises kinds piece v v old old was was reply (Ok Done)
-step_listed {was} kinds v sound old piece front reply ready is prepares told =
-    step_quiet {now = was} kinds v sound old piece reply Done ready is
-    (λ x s none of.
+    → ((l : Layout) → old.manifest.listing ≡ listing_of l → reply ≡ front ++ files_lines (counted_texts was.views (file_names l))) → StepPromises kinds piece v v old old was was reply (Ok Done)
+step_listed {was} kinds v sound old piece front reply ready is are prepares told =
+    step_quiet {was = was} {now = was} kinds v sound old piece reply Done ready is are (λ known. known)
+    (λ x s named of.
     let prepared = prepares s of in
     let turned = listed_turns s piece prepared.2 in
     record {
       state_is = subst (IsStateOf (known_in_memory (memory_of old))) (sym prepared.0.state_is) of;
-      cursors_are = subst (λ (t : Turn). HasNoCursor t.session) (sym (turned.turn_is x)) none;
+      cursors_are = subst (λ (t : Turn). HasNamesOf was.cursors t.session) (sym (turned.turn_is x)) named;
       outcome_is = prepared.0.outcome_is ∙ ap (λ (t : Turn). outcome_of t.refused) (sym (turned.turn_is x));
       reply_is = λ other. absurd (other (inr (inr (shows_files s piece prepared.2)), turn_taken x s piece _ _ turned prepared.0.outcome_is));
     })
     (λ w serves.
     let s = state_of w.layout in
     let prepared = prepares s (state_is v (memory_of old) w.layout serves.serves) in
-    let turned = listed_turns s piece prepared.2 in (
-      serves.trace_is ∙ ap (λ (t : Turn). t.session.trace) (sym (turned.turn_is w.session)),
-      ap (λ (t : Turn). t.reply ++ tail_bytes t.tail (told_in w.layout (read piece))) (turned.turn_is w.session)
-          ∙ ap (λ (first : List ℕ). first ++ files_lines (file_texts w.layout)) prepared.0.reply_is
-          ∙ sym (told w.layout serves.serves.listing),
-    ))
+    let turned = listed_turns s piece prepared.2 in
+    let plain = says_plain piece (AsksFiles s) (plain_files s) prepared.2 in
+    record {
+      moves_are = plain_moves w piece plain;
+      trace_is = serves.trace_is ∙ ap (λ (t : Turn). t.session.trace) (sym (turned.turn_is w.session));
+      cursors_are = subst (λ (t : Turn). AreCursorsOf v.files old.maps was.cursors t.session) (sym (turned.turn_is w.session)) serves.cursors_are;
+      views_are = plain_views w piece plain ∙ serves.views_are;
+      reply_is = ap (λ (t : Turn). t.reply ++ tail_bytes t.tail (told_in w (read piece))) (turned.turn_is w.session)
+          ∙ ap (λ (first : List ℕ). first ++ files_lines (file_texts w.views w.layout)) prepared.0.reply_is
+          ∙ ap (λ (views : List (List ℕ × List FileName)). front ++ files_lines (current_texts views (file_names w.layout))) serves.views_are
+          ∙ ap (λ (texts : List (List ℕ)). front ++ files_lines texts) (sym (texts_pinned v.files old was are (file_names w.layout)))
+          ∙ sym (told w.layout serves.serves.listing);
+    })

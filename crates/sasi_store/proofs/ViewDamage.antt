@@ -1,4 +1,4 @@
--- Damage that a reader shows in a view of the current parts of a table is damage of the folder.
+-- Damage that a reader shows in a view of files that a table lists is damage of the folder.
 use Rattle.std.proofs.Common.{◌≡◌, ◌-◌, ◌<◌, ◌||◌, ◌&&◌, Bool, true, false, nat_eq, is_some, IsSome, ℕ, zero, suc, List, [], ◌∷◌, length, map, slice_get, slice_index_or, Option, None, Some, inl, inr, refl, sym, ap, subst, ◌∙◌, arith}
 use Rattle.std.specs.Prelude.{Contains}
 use Rattle.std.proofs.lemmas.Bool.{or_left, or_right}
@@ -19,7 +19,7 @@ use Rattle.sasi_host.specs.declared.name.FileName.{FileName}
 use Rattle.sasi_host.specs.declared.name.Kind.TheVariants.{Data}
 use Rattle.sasi_host.specs.Names.{Bytes, Folder, data_name, name_eq, rank, seal_name}
 use Rattle.sasi_host.specs.View.{IsSound, View, contents_in}
-use Rattle.sasi_layout.proofs.FileNameLaws.{data_named, have_name, name_same, other_kind}
+use Rattle.sasi_layout.proofs.FileNameLaws.{data_named, name_same, other_kind}
 use Rattle.sasi_layout.proofs.KeptLaws.{keeps_data, keeps_seal}
 use Rattle.sasi_layout.proofs.Trails.{manifest_each}
 use Rattle.sasi_layout.specs.Kept.{Kept, is_kept}
@@ -36,14 +36,15 @@ use Rattle.sasi_manifest.specs.ListedTables.{listed}
 use Rattle.sasi_scan.specs.Parts.{ShowsListed}
 use Rattle.sasi_engine.specs.Plans.{IsShownIn, is_file_of, of_data, of_hits, of_index, of_lookup}
 use Rattle.sasi_plan.specs.Plans.{PlanView}
-use Rattle.sasi_plan.specs.Reading.{PendingShows}
+use Rattle.sasi_plan.specs.Reading.{PendingShows, listed_files}
+use Rattle.sasi_model.specs.Abbreviations.{types_of}
+use Rattle.sasi_views.specs.declared.part.Part.{Part}
 use Rattle.sasi_store.specs.Selects.{IsPlanFor}
 use Rattle.sasi_tables.specs.TablesView.{memory_of}
-use Rattle.sasi_tables.specs.ViewParts.{current_parts, table_numbers}
+use Rattle.sasi_tables.specs.ViewParts.{current_parts, listed_parts, table_numbers}
 use Rattle.sasi_tables.specs.declared.parts.Parts.{Parts}
-use Rattle.sasi_store.proofs.SelectWorlds.{files_back}
 use Rattle.sasi_tables.proofs.TablesInMemory.{there_inside}
-use Rattle.sasi_store.proofs.ViewFiles.{view_files, view_listed, view_there}
+use Rattle.sasi_store.proofs.ListedViews.{IsOfFiles, data_listed, part_named, parts_listed, parts_there}
 
 -- ---- lists
 
@@ -73,6 +74,14 @@ found_in : {A : Type 0} (o : Option A) → IsSome o → (x : A) × (o ≡ Some x
 found_in None some = cc
 found_in (Some x) some = (x, refl)
 
+-- one of them has what all have
+in_each : (files fs : List ListedFile) → AllByRecursion (λ (f : ListedFile). Contains files f) fs → (f : ListedFile) → Contains fs f → Contains files f
+in_each files fs all f has = all_within (Contains files) fs f has.0 has.1 has.2 all
+
+pub each_in : (fs : List ListedFile) → AllByRecursion (λ (f : ListedFile). Contains fs f) fs
+each_in [] = tt
+each_in (f ∷ fs) = ((0, omega arith, refl), all_then (λ (g : ListedFile). Contains fs g) (λ (g : ListedFile). Contains (f ∷ fs) g) (λ g is. (suc is.0, omega (arith, is.1), is.2)) fs (each_in fs))
+
 -- ---- listed files
 
 -- each file has its number
@@ -94,22 +103,6 @@ unkept_seal k other above = by (nat_eq other k.manifest) (has_name k.listing.tab
     by : (a b : Bool) → a ≡ false → b ≡ false → ((((true && a) && true) && true) || b) ≡ false
     by true b apart unlisted = cc
     by false b apart unlisted = unlisted
-
--- ---- the file of a name
-
--- the listed file whose name it is
-record IsNamedBy (fs : List ListedFile) (name : FileName) : Type 0 where
-  pub file : ListedFile
-  pub is_in : Contains fs file
-  pub named : is_name_of file name ≡ true
-
-named_by : (fs : List ListedFile) (name : FileName) → have_name fs name ≡ true → IsNamedBy fs name
-named_by [] name is = cc
-named_by (f ∷ fs) name is = by (is_name_of f name) refl is (named_by fs name)
-  where
-    by : (b : Bool) → is_name_of f name ≡ b → (b || have_name fs name) ≡ true → (have_name fs name ≡ true → IsNamedBy fs name) → IsNamedBy (f ∷ fs) name
-    by true own is later = record { file = f; is_in = (0, omega arith, refl); named = own }
-    by false other is later = (let rest = later is in record { file = rest.file; is_in = (suc rest.is_in.0, omega (arith, rest.is_in.1), rest.is_in.2); named = rest.named })
 
 -- no index file is called as a data file
 no_index : (name : FileName) → name.kind ≡ Data → (number : ℕ) (ps : List PartNumber) → list_any (name_eq name) (map (index_name number) ps) ≡ false
@@ -134,18 +127,20 @@ keys_show types file bytes damage (keys.inside numbers has shown) = inside numbe
 
 -- ---- a view
 
-module _ (v : View) (sound : IsSound v) (p : Parts) (ready : CanChange v (memory_of p)) (rows : Selection) (plan : PlanView) (is : IsPlanFor p rows plan) (folder : Folder) (now : v.files ≡ Some folder) where
+-- of a table that has columns of these types; it lists files of the table
+module _ (v : View) (sound : IsSound v) (p : Parts) (ready : CanChange v (memory_of p)) (table : ℕ) (row : ListedDefinition) (row_there : slice_get p.manifest.listing.tables (table - 1) ≡ Some row) (types : List ColumnType)
+    (types_are : types ≡ types_of row.definition) (parts : List Part) (listed : AllByRecursion (IsOfFiles (files_of p.manifest.listing.tables table)) parts) (folder : Folder) (now : v.files ≡ Some folder) where
   abbrev listing : Listing
   listing = p.manifest.listing
 
   abbrev at : ℕ
-  at = rows.table - 1
+  at = table - 1
 
   abbrev files : List ListedFile
-  files = files_of listing.tables rows.table
+  files = files_of listing.tables table
 
-  files_are : files ≡ is.row.files
-  files_are = ap (λ (o : Option ListedDefinition). option_map_or (λ (x : ListedDefinition). x.files) o []) is.there
+  files_are : files ≡ row.files
+  files_are = ap (λ (o : Option ListedDefinition). option_map_or (λ (x : ListedDefinition). x.files) o []) row_there
 
   sealed : IsSealed folder p.manifest.number
   sealed = record {
@@ -165,43 +160,54 @@ module _ (v : View) (sound : IsSound v) (p : Parts) (ready : CanChange v (memory
       })
 
   -- of a data file
-  data_shows : (damage : Damage) → ShowsListed v.files files plan.types damage → FolderShows folder damage
+  data_shows : (damage : Damage) → ShowsListed v.files files types damage → FolderShows folder damage
   data_shows damage shows =
       let n = shows.file.number in
-      let contained : Contains is.row.files shows.file = subst (λ (fs : List ListedFile). Contains fs shows.file) files_are shows.listed in
-      let holds : has_file is.row.files n ≡ true = all_within (λ (f : ListedFile). has_file is.row.files f.number ≡ true) is.row.files shows.file contained.0 contained.1 contained.2 (has_each is.row.files) in
-      let is_in : list_any (λ t. has_file t.files n) listing.tables ≡ true = listed_any listing.tables at (listed is.row) is.there n holds in
+      let contained : Contains row.files shows.file = subst (λ (fs : List ListedFile). Contains fs shows.file) files_are shows.listed in
+      let holds : has_file row.files n ≡ true = all_within (λ (f : ListedFile). has_file row.files f.number ≡ true) row.files shows.file contained.0 contained.1 contained.2 (has_each row.files) in
+      let is_in : list_any (λ t. has_file t.files n) listing.tables ≡ true = listed_any listing.tables at row row_there n holds in
       let bytes = some_in (get folder (data_name n)) (ready.kept folder now (data_name n) ∙ keeps_data (kept_by (memory_of p)) n ∙ is_in) in
       listed_shows damage (by n bytes.0 is_in bytes.1 holds (shows.shown bytes.0 (ap (λ (o : Option Folder). contents_in o (data_name n)) now ∙ bytes.1)))
     where
-      by : (n : ℕ) (bytes : Bytes) → list_any (λ t. has_file t.files n) listing.tables ≡ true → get folder (data_name n) ≡ Some bytes → has_file is.row.files n ≡ true → ShowsDataFile plan.types (data_name n) bytes damage → folders.ShowsListedFile folder listing.tables damage
+      by : (n : ℕ) (bytes : Bytes) → list_any (λ t. has_file t.files n) listing.tables ≡ true → get folder (data_name n) ≡ Some bytes → has_file row.files n ≡ true → ShowsDataFile types (data_name n) bytes damage → folders.ShowsListedFile folder listing.tables damage
       by n bytes is_in there holds (outside shown) = broken_ends (data_name n) bytes (data_named n listing.tables ∙ is_in) there shown
-      by n bytes is_in there holds (inside numbers parts shown) = broken_content n bytes (opened_by (data_name n) plan.types numbers) there (record {
-        table = listed is.row;
-        listed = (at, there_inside listing.tables at (listed is.row) is.there, index_there listing.tables at (listed is.row) is.there);
+      by n bytes is_in there holds (inside numbers parts shown) = broken_content n bytes (opened_by (data_name n) types numbers) there (record {
+        table = row;
+        listed = (at, there_inside listing.tables at row row_there, index_there listing.tables at row row_there);
         has = holds;
         named = refl;
-        types = is.types;
+        types = types_are;
         parts = parts;
       }) shown
 
-  -- the data file of a name in the view
-  named : (name : FileName) → is_file_of (current_parts p rows.table) name ≡ true → IsNamedBy files name
-  named name is_file = named_by files name (sym (view_files files (table_numbers p.tables.items rows.table) name) ∙ is_file)
-
-  lookup_shows : (damage : Damage) (name : FileName) → name.kind ≡ Data → is_file_of (current_parts p rows.table) name ≡ true → FileShows plan.types name v.files damage → FolderShows folder damage
+  lookup_shows : (damage : Damage) (name : FileName) → name.kind ≡ Data → is_file_of parts name ≡ true → FileShows types name v.files damage → FolderShows folder damage
   lookup_shows damage name kind is_file shows =
-      let by = named name is_file in
-      data_shows damage (record { file = by.file; listed = by.is_in; shown = subst (λ (n : FileName). FileShows plan.types n v.files damage) (data_by by.file name kind by.named) shows })
+      let by = part_named files name parts listed is_file in
+      data_shows damage (record { file = by.file; listed = by.is_in; shown = subst (λ (n : FileName). FileShows types n v.files damage) (data_by by.file name kind by.named) shows })
 
-  hits_show : (damage : Damage) → IsShownIn (current_parts p rows.table) v.files damage → FolderShows folder damage
-  hits_show damage (of_data name kind is_file shows) = lookup_shows damage name kind is_file (λ bytes there. keys_show plan.types name bytes damage (shows bytes there))
+  hits_show : (damage : Damage) → IsShownIn parts v.files damage → FolderShows folder damage
+  hits_show damage (of_data name kind is_file shows) = lookup_shows damage name kind is_file (λ bytes there. keys_show types name bytes damage (shows bytes there))
   hits_show damage (of_index name kind is_file shows) =
-      let there = found_in (get folder name) (subst (λ (o : Option Folder). IsSome o → IsSome (contents_in o name)) now (view_there v p ready rows.table name is_file) refl) in
-      listed_shows damage (broken_index name there.0 (view_listed v p ready rows.table name is_file) kind there.1 (shows there.0 (ap (λ (o : Option Folder). contents_in o name) now ∙ there.1)))
+      let found = found_in (get folder name) (subst (λ (o : Option Folder). IsSome o → IsSome (contents_in o name)) now (parts_there p table parts listed v ready name is_file) refl) in
+      listed_shows damage (broken_index name found.0 (parts_listed p table parts listed name is_file) kind found.1 (shows found.0 (ap (λ (o : Option Folder). contents_in o name) now ∙ found.1)))
 
-  -- **So is what a source shows.**
-  pub view_shows : (damage : Damage) → PendingShows plan.types (current_parts p rows.table) v.files damage → FolderShows folder damage
-  view_shows damage (inl (of_hits shown)) = hits_show damage shown
-  view_shows damage (inl (of_lookup name kind is_file shows)) = lookup_shows damage name kind is_file shows
-  view_shows damage (inr shows) = data_shows damage (subst (λ (fs : List ListedFile). ShowsListed v.files fs plan.types damage) (files_back files (table_numbers p.tables.items rows.table)) shows)
+  -- **What a source shows in it is damage of the folder.**
+  pub parts_show : (damage : Damage) → PendingShows types parts v.files damage → FolderShows folder damage
+  parts_show damage (inl (of_hits shown)) = hits_show damage shown
+  parts_show damage (inl (of_lookup name kind is_file shows)) = lookup_shows damage name kind is_file shows
+  parts_show damage (inr shows) = data_shows damage (record { file = shows.file; listed = in_each files (listed_files parts) (data_listed files parts listed) shows.file shows.listed; shown = shows.shown })
+
+-- ---- the view of a SELECT
+
+-- each of the files is one of them
+own_files : (files : List ListedFile) (numbers : List ℕ) (fs : List ListedFile) → AllByRecursion (λ (f : ListedFile). Contains files f) fs → AllByRecursion (IsOfFiles files) (listed_parts fs numbers)
+own_files all_files [] [] all = tt
+own_files all_files (n ∷ numbers) [] all = (tt, own_files all_files numbers [] all)
+own_files all_files numbers (f ∷ fs) all = (all.0, own_files all_files numbers fs all.1)
+
+-- **So it is in a view of the current parts of its table.**
+pub view_shows : (v : View) → IsSound v → (p : Parts) → CanChange v (memory_of p) → (rows : Selection) (plan : PlanView) → IsPlanFor p rows plan → (folder : Folder) → v.files ≡ Some folder → (damage : Damage)
+    → PendingShows plan.types (current_parts p rows.table) v.files damage → FolderShows folder damage
+view_shows v sound p ready rows plan is folder now =
+    let files = files_of p.manifest.listing.tables rows.table in
+    parts_show v sound p ready rows.table (listed is.row) is.there plan.types is.types (current_parts p rows.table) (own_files files (table_numbers p.tables.items rows.table) files (each_in files)) folder now

@@ -45,13 +45,13 @@ files_have P none (t ∷ ts) zero all = all.0
 files_have P none (t ∷ ts) (suc at) all = files_have P none ts at all.1
 
 -- what one of them is called, a file of the tables is called
-name_listed : (ts : List ListedDefinition) (at : ℕ) (name : FileName) → have_name (option_map_or (λ t. t.files) (slice_get ts at) []) name ≡ true → list_any (λ t. have_name t.files name) ts ≡ true
+pub name_listed : (ts : List ListedDefinition) (at : ℕ) (name : FileName) → have_name (option_map_or (λ t. t.files) (slice_get ts at) []) name ≡ true → list_any (λ t. have_name t.files name) ts ≡ true
 name_listed [] at name is = is
 name_listed (t ∷ ts) zero name is = or_left (have_name t.files name) (list_any (λ t. have_name t.files name) ts) is
 name_listed (t ∷ ts) (suc at) name is = or_right (have_name t.files name) (list_any (λ t. have_name t.files name) ts) (name_listed ts at name is)
 
 -- and is kept
-listed_kept : (k : Kept) (name : FileName) → has_name k.listing.tables name ≡ true → is_kept k name ≡ true
+pub listed_kept : (k : Kept) (name : FileName) → has_name k.listing.tables name ≡ true → is_kept k name ≡ true
 listed_kept k name is =
     let segment : Bool = has_segment k.listing.floor k.listing.last name in
     or_right (name_eq name (manifest_name k.manifest)) (name_eq name (seal_name k.manifest) || (segment || has_name k.listing.tables name))
@@ -71,7 +71,7 @@ view_files (f ∷ fs) ns name = ap (λ b. is_name_of f name || b) (view_files fs
 abbrev one_if : Bool → ℕ
 one_if b = if b then 1 else 0
 
-lists_both : (c : Component) (xs ys : List Component) → lists c (xs ++ ys) ≡ lists c xs + lists c ys
+pub lists_both : (c : Component) (xs ys : List Component) → lists c (xs ++ ys) ≡ lists c xs + lists c ys
 lists_both c [] ys = omega arith
 lists_both c (x ∷ xs) ys = omega (arith, lists_both c xs ys)
 

@@ -234,7 +234,7 @@ module _ (v : View) (sound : IsSound v) (p : Parts) (of : IsOfParts p) (ready : 
 
   -- ---- its map
 
-  held : (h : HeldTable) × (slice_get (held_in p) at ≡ Some h) × (held_memory h ≡ table_in_memory t)
+  pub held : (h : HeldTable) × (slice_get (held_in p) at ≡ Some h) × (held_memory h ≡ table_in_memory t)
   held = seen_as held_memory (held_in p) at (table_in_memory t) (ap (λ (ts : List TableInMemory). slice_get ts at) serves.tables ∙ map_there table_in_memory l.tables at t there)
 
   own : (x : TableMaps) × (slice_get p.tables.items at ≡ Some x) × (held_by p.maps x ≡ held.0)

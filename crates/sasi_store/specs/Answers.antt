@@ -13,9 +13,10 @@ use Rattle.sasi_model.specs.Refusals.{Nothing, ParsedPiece, Says, read, read_by}
 use Rattle.sasi_model.specs.Sessions.{SessionState, refused_by, session_by, turn_by}
 use Rattle.sasi_model.specs.State.{State}
 use Rattle.sasi_model.specs.Step.{step}
-use Rattle.sasi_types.specs.declared.statement.Statement.TheVariants.{Fetch, ShowFiles, Trace}
+use Rattle.sasi_types.specs.declared.statement.Statement.TheVariants.{CloseCursor, Fetch, OpenCursor, ShowFiles, Trace}
 use Rattle.sasi_tables.specs.TablesView.{memory_of}
-use Rattle.sasi_store.specs.Worlds.{HasNoCursor, PartsServe, World, steps}
+use Rattle.sasi_store.specs.Cursors.{HasNamesOf}
+use Rattle.sasi_store.specs.Worlds.{PartsServe, World, steps}
 use Rattle.sasi_tables.specs.declared.parts.Parts.{Parts}
 use Rattle.sasi_store.specs.declared.session_state.SessionState.{SessionState as StoreSession}
 
@@ -31,21 +32,27 @@ abbrev pub IsFetch : ParsedPiece → Type 0
 IsFetch (Says (Fetch cursor count)) = ⊤
 IsFetch parsed = ⊥
 
+-- a SELECT or a FETCH, which reads files
+abbrev pub ReadsRows : ParsedPiece → Type 0
+ReadsRows parsed = IsQuery parsed ⊎ IsFetch parsed
+
 -- A SELECT, a FETCH or SHOW FILES that isn't refused: what it prints comes from the files, or tells of them.
 abbrev pub PrintsStored : Parser → SessionState → State → Piece → Type 0
 PrintsStored parser session s piece = (IsQuery (read_by parser piece) ⊎ IsFetch (read_by parser piece) ⊎ IsShowFiles (read_by parser piece)) × (refused_by parser session s piece ≡ None)
 
--- Whatever the files are, from a session of the model and a state: the outcome is that of the model's turn, and so is the reply, but where it comes from the files or tells of them. The store's parts have the definitions and the largest timestamp of the state after the piece. No cursor is open in the model's session after it, as none is in the store's.
+-- Whatever the files are, from a session of the model and a state: the outcome is that of the model's turn, and so is the reply, but where it comes from the files or tells of them. The store's parts have the definitions and the largest timestamp of the state after the piece, and the store's cursors have the names of those of the model's session after it.
 pub record AnsweredButRows (p : Parts) (session : StoreSession) (x : SessionState) (s : State) (piece : Piece) (reply : List ℕ) (outcome : Outcome) : Type 0 where
   pub state_is : IsStateOf (known_in_memory (memory_of p)) (step s piece).state
-  pub cursors_are : HasNoCursor (session_by grammar_parser x s piece)
+  pub cursors_are : HasNamesOf session.cursors (session_by grammar_parser x s piece)
   pub outcome_is : outcome ≡ outcome_of (refused_by grammar_parser x s piece)
   pub reply_is : ¬ (PrintsStored grammar_parser x s piece) → reply ≡ (turn_by grammar_parser x s piece).reply
 
--- SHOW FILES, which tells what is in memory, or TRACE
+-- SHOW FILES, which tells what is in memory, TRACE, OPEN or CLOSE
 abbrev pub AsksNoFile : ParsedPiece → Type 0
 AsksNoFile (Says ShowFiles) = ⊤
 AsksNoFile (Says (Trace on)) = ⊤
+AsksNoFile (Says (OpenCursor cursor select)) = ⊤
+AsksNoFile (Says (CloseCursor cursor)) = ⊤
 AsksNoFile parsed = ⊥
 
 -- the piece is refused, has no reply, or is one of those

@@ -1,18 +1,18 @@
 -- What contracts see of a store.
-use Rattle.std.specs.Prelude.{IsTrue, []}
+use Rattle.std.specs.Prelude.{ℕ, IsTrue, List}
+use Rattle.std.specs.List.{AllByRecursion}
+use Rattle.sasi_types.specs.declared.class.Class.{Class}
 use Rattle.sasi_host.specs.View.{View}
+use Rattle.sasi_layout.specs.Classes.{KnowsClasses}
 use Rattle.sasi_layout.specs.Serving as layout
 use Rattle.sasi_layout.specs.Serving.{StoreInMemory}
-use Rattle.sasi_views.specs.Books.{Book}
-use Rattle.sasi_views.specs.Kept.{IsCounted}
+use Rattle.sasi_recheck.specs.Rows.{KnowsWhere}
 use Rattle.sasi_tables.specs.TablesView.{IsOfParts, memory_of}
+use Rattle.sasi_tables.specs.declared.parts.Parts.{Parts}
+use Rattle.sasi_store.specs.Cursors.{AreCursors}
+use Rattle.sasi_store.specs.declared.session_state.OpenCursor.{OpenCursor}
+use Rattle.sasi_store.specs.declared.session_state.SessionState.{SessionState}
 use Rattle.sasi_store.specs.declared.store.Store.{Store}
-
--- ---- views
-
--- no view is out, and none is counted
-abbrev pub HasNoneOut : Book → Type 0
-HasNoneOut book = IsCounted book []
 
 -- ---- a store
 
@@ -20,9 +20,17 @@ HasNoneOut book = IsCounted book []
 abbrev pub store_memory : Store → StoreInMemory
 store_memory store = memory_of store.parts
 
--- It can make a step: every step before succeeded, and no view is out.
+-- It can make a step: every step before succeeded, and the views that are out are those of the open cursors, each of which can be read on.
 pub record IsReady (v : View) (store : Store) : Type 0 where
   pub memory : layout.CanChange v (store_memory store)
   pub usable : IsTrue store.usable
   pub parts : IsOfParts store.parts
-  pub none_out : HasNoneOut store.session.views
+  pub cursors : AreCursors v.files store.parts store.session
+
+-- An analyzer is there for each index of the tables, and for each condition of an open cursor that needs one.
+pub record KnowsAll (kinds : List Class) (p : Parts) (session : SessionState) : Type 0 where
+  pub tables : KnowsClasses kinds (memory_of p)
+  pub cursors : AllByRecursion (λ (e : List ℕ × OpenCursor). KnowsWhere kinds e.1.rows.reader.rows.filter) session.cursors
+
+abbrev pub KnowsStore : List Class → Store → Type 0
+KnowsStore kinds store = KnowsAll kinds store.parts store.session

@@ -1,27 +1,37 @@
 -- What a run goes through: a layout and a session, and what a piece makes of them.
-use Rattle.std.specs.Prelude.{◌≡◌, ◌-◌, ◌^◌, ℕ, Bool, if◌then◌else◌, map, min, List, [], slice_get, refl}
+use Rattle.std.specs.Prelude.{◌≡◌, ◌-◌, ◌^◌, ℕ, Bool, not, if◌then◌else◌, length, map, min, List, [], ◌∷◌, ◌++◌, slice_get, Option, None, Some, refl}
+use Rattle.std.specs.List.{filter, flat_map, list_any}
 use Rattle.std.specs.Option.{option_map_or}
 use Rattle.sasi_host.specs.View.{View}
 use Rattle.sasi_model.specs.Filters.{row_limit, where_of}
 use Rattle.sasi_model.specs.Parsers.{Parser, grammar_parser}
-use Rattle.sasi_model.specs.Refusals.{ParsedPiece, Says, read_by}
-use Rattle.sasi_model.specs.Sessions.{CheckedTail, NoTail, SessionState, Told, new_session, reply_by, session_by, tail_bytes}
+use Rattle.sasi_model.specs.Pieces.{Piece}
+use Rattle.sasi_model.specs.Refusals.{ParsedPiece, Refusal, Says, read_by}
+use Rattle.sasi_model.specs.Sessions.{CheckedTail, NoTail, SessionState, Told, new_session, refused_by, reply_by, rows_given, session_by, tail_bytes, without_cursor}
+use Rattle.sasi_model.specs.Tokens.{same}
 use Rattle.sasi_schema.specs.Numbers.{number_of_table}
-use Rattle.sasi_types.specs.declared.statement.Statement.TheVariants.{Query}
+use Rattle.sasi_types.specs.declared.statement.Statement.TheVariants.{CloseCursor, OpenCursor, Query}
+use Rattle.sasi_host.specs.Names.{name_eq}
 use Rattle.sasi_host.specs.declared.name.FileName.{FileName}
 use Rattle.sasi_layout.specs.FileNames.{file_names}
-use Rattle.sasi_layout.specs.Layout.{Layout, TableParts, state_of}
-use Rattle.sasi_layout.specs.Moves.{after_moves}
+use Rattle.sasi_layout.specs.Layout.{File, Layout, TableParts, state_of}
+use Rattle.sasi_layout.specs.Moves.{Move, after_moves}
 use Rattle.sasi_layout.specs.Serving.{Serves}
 use Rattle.sasi_layout.specs.Statements.{definitions_of, moves_by}
 use Rattle.sasi_layout.specs.Transitions.{Transitions}
+use Rattle.sasi_manifest.specs.ListedFiles.{names_of}
+use Rattle.sasi_machine.specs.Prepares.{rows_asked}
+use Rattle.sasi_machine.specs.declared.prepared.FetchAsked.{FetchAsked}
+use Rattle.sasi_machine.specs.declared.prepared.OpenAsked.{OpenAsked}
 use Rattle.sasi_machine.specs.declared.prepared.Selection.{Selection}
 use Rattle.sasi_candidates.specs.Checks.{checked}
 use Rattle.sasi_candidates.specs.LayoutParts.{parts_of}
 use Rattle.sasi_print.specs.Files.{file_text}
 use Rattle.sasi_print.specs.declared.file_lines.FileState.TheVariants.{Current}
 use Rattle.sasi_store.specs.Selects.{conditions_on}
+use Rattle.sasi_tables.specs.Freezing.{freeze_where}
 use Rattle.sasi_tables.specs.TablesView.{memory_of}
+use Rattle.sasi_store.specs.Cursors.{AreCursorsOf, views_told}
 use Rattle.sasi_tables.specs.declared.parts.Parts.{Parts}
 use Rattle.sasi_store.specs.declared.session_state.SessionState.{SessionState as StoreSession}
 use Rattle.sasi_store.specs.declared.store.Store.{Store}
@@ -29,10 +39,12 @@ use Rattle.sasi_store.specs.declared.store.Store.{Store}
 pub record World : Type 0 where
   pub layout : Layout
   pub session : SessionState
+  -- the files that each open cursor holds, under its name
+  pub views : List (List ℕ × List FileName)
 
 -- a layout at the start of a run
 abbrev pub new_world : Layout → World
-new_world l = record { layout = l; session = new_session }
+new_world l = record { layout = l; session = new_session; views = [] }
 
 -- ---- candidates
 
@@ -56,27 +68,81 @@ rows_tail trace n = tail_bytes (if trace then CheckedTail else NoTail) (told_che
 
 -- ---- files
 
--- these files, each current and held by no cursor
-abbrev pub current_texts : List FileName → List (List ℕ)
-current_texts names = map (λ (name : FileName). file_text name Current 0) names
+-- how many of the cursors hold the file
+abbrev pub pinned : FileName → List (List ℕ × List FileName) → ℕ
+pinned name views = length (filter (λ (view : List ℕ × List FileName). list_any (name_eq name) view.1) views)
+
+-- these files, each current, and how many cursors hold it
+abbrev pub current_texts : List (List ℕ × List FileName) → List FileName → List (List ℕ)
+current_texts views names = map (λ (name : FileName). file_text name Current (pinned name views)) names
 
 -- **What SHOW FILES tells of a layout**: each data and index file that it has, in their order
-abbrev pub file_texts : Layout → List (List ℕ)
-file_texts l = current_texts (file_names l)
+abbrev pub file_texts : List (List ℕ × List FileName) → Layout → List (List ℕ)
+file_texts views l = current_texts views (file_names l)
 
--- what is told of a layout in the reply to a piece
-abbrev pub told_in : Layout → ParsedPiece → Told
-told_in l parsed = record { checked = piece_checks l parsed; files = file_texts l }
+-- what is told of a world in the reply to a piece
+abbrev pub told_in : World → ParsedPiece → Told
+told_in w parsed = record { checked = piece_checks w.layout parsed; files = file_texts w.views w.layout }
+
+-- ---- cursors
+
+-- the files that the table with this number has
+abbrev pub table_names : Layout → ℕ → List FileName
+table_names l number = option_map_or (λ (t : TableParts). flat_map names_of (map (λ (f : File). f.listed) t.files)) (slice_get l.tables (number - 1)) []
+
+-- The files that are held after a piece that isn't refused: an OPEN holds those of its table, and a CLOSE none any more.
+abbrev pub views_after : Layout → ParsedPiece → List (List ℕ × List FileName) → List (List ℕ × List FileName)
+views_after l (Says (OpenCursor cursor select)) views = views ++ (cursor, option_map_or (table_names l) (number_of_table select.table (definitions_of l)) []) ∷ []
+views_after l (Says (CloseCursor cursor)) views = filter (λ (view : List ℕ × List FileName). not (same cursor view.0)) views
+views_after l parsed views = views
+
+-- the move of an OPEN that isn't refused: its table's memtable is frozen where it holds anything
+abbrev pub opening_moves : Layout → ParsedPiece → List Move
+opening_moves l (Says (OpenCursor cursor select)) = option_map_or (λ number. freeze_where number l) (number_of_table select.table (definitions_of l)) []
+opening_moves l parsed = []
+
+-- a refused piece does nothing
+abbrev pub unless_refused : {A : Type 0} → Option Refusal → A → A → A
+unless_refused None taken left = taken
+unless_refused (Some r) taken left = left
+
+-- the world in which a cursor was opened that no rule refuses: its rows are those that the SELECT has
+abbrev pub opened_world : OpenAsked → World → World
+opened_world asked w = record {
+  layout = after_moves (freeze_where asked.rows.table w.layout) w.layout;
+  session = record w.session { cursors = w.session.cursors ++ record { name = asked.cursor; rows = rows_asked (state_of w.layout) asked.rows } ∷ [] };
+  views = w.views ++ (asked.cursor, table_names w.layout asked.rows.table) ∷ [];
+}
+
+-- that in which one has given its first rows
+abbrev pub fetched_world : FetchAsked → World → World
+fetched_world asked w = record w { session = record w.session { cursors = rows_given asked.cursor asked.count w.session.cursors } }
+
+-- that in which one was closed
+abbrev pub closed_world : List ℕ → World → World
+closed_world name w = record w { session = record w.session { cursors = without_cursor name w.session.cursors }; views = filter (λ (view : List ℕ × List FileName). not (same name view.0)) w.views }
 
 -- ---- steps
 
--- By a parser: the moves are those of the layout. The reply is the model's at its state and session; where its tail tells of the candidates or of the files, they are those of the layout.
+-- the moves of a piece
+abbrev pub moves_in : Parser → World → Piece → List Move
+moves_in parser w piece = unless_refused (refused_by parser w.session (state_of w.layout) piece) (opening_moves w.layout (read_by parser piece)) [] ++ moves_by parser w.layout piece
+
+-- the files that are held after it
+abbrev pub views_by : Parser → World → Piece → List (List ℕ × List FileName)
+views_by parser w piece = unless_refused (refused_by parser w.session (state_of w.layout) piece) (views_after w.layout (read_by parser piece) w.views) w.views
+
+-- By a parser: the moves are those of the layout. The reply is the model's at its state and session; where its tail tells of the candidates or of the files, they are those of the layout, and the cursors that hold them.
 abbrev pub steps_by : Parser → Transitions World
 steps_by parser = record {
   layout = λ w. w.layout;
-  moves = λ w piece. moves_by parser w.layout piece;
-  after = λ w piece. record { layout = after_moves (moves_by parser w.layout piece) w.layout; session = session_by parser w.session (state_of w.layout) piece };
-  reply = λ w piece. reply_by parser w.session (state_of w.layout) piece (told_in w.layout (read_by parser piece));
+  moves = λ w piece. moves_in parser w piece;
+  after = λ w piece. record {
+    layout = after_moves (moves_in parser w piece) w.layout;
+    session = session_by parser w.session (state_of w.layout) piece;
+    views = views_by parser w piece;
+  };
+  reply = λ w piece. reply_by parser w.session (state_of w.layout) piece (told_in w (read_by parser piece));
   layout_is = λ w piece. refl;
 }
 
@@ -85,15 +151,12 @@ steps = steps_by grammar_parser
 
 -- ---- stores
 
--- no cursor is open in the session
-abbrev pub HasNoCursor : SessionState → Type 0
-HasNoCursor session = session.cursors ≡ []
-
--- A store with these parts and this session serves the world: the session's TRACE is the world's. No cursor is open.
+-- A store with these parts and this session serves the world: TRACE is on where it is in the world, and the open cursors are those of the world, with the rows that they have left and the files that they hold.
 pub record PartsServe (v : View) (p : Parts) (session : StoreSession) (w : World) : Type 0 where
   pub serves : Serves v (memory_of p) w.layout
   pub trace_is : session.trace ≡ w.session.trace
-  pub cursors_are : HasNoCursor w.session
+  pub cursors_are : AreCursorsOf v.files p.maps session.cursors w.session
+  pub views_are : w.views ≡ views_told session.cursors
 
 -- the store serves the world
 abbrev pub ServesWorld : View → Store → World → Type 0

@@ -4,6 +4,7 @@
 //! crash leaves at each moment.
 #![tactic(auto)]
 
+mod cursors;
 mod select;
 mod session_state;
 mod show_files;

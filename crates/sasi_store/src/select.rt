@@ -1,5 +1,5 @@
 // SELECTs.
-ghost use Rattle.std.specs.Prelude.{◌≡◌, ◌+◌, ◌++◌, ◌≤◌, IfErr, IfOk, OnOk, map};
+ghost use Rattle.std.specs.Prelude.{◌≡◌, ◌+◌, ◌++◌, ◌≤◌, List, IfErr, IfOk, OnOk, map};
 ghost use Rattle.sasi_folder.specs.Damages.{FolderShows};
 ghost use Rattle.sasi_host.specs.Damages.{OnDamage};
 ghost use Rattle.sasi_host.specs.Disk.{Changes, Same};
@@ -13,7 +13,10 @@ ghost use Rattle.sasi_scan.specs.Scanning.{ScanCauses};
 ghost use Rattle.sasi_tables.specs.Faults.{OnMissing, OnSpent, OnStepDamage, StepCauses};
 ghost use Rattle.sasi_store.specs.Selects.{HasShortFiles, IsPlanFor, IsSelectable, selection_reads};
 ghost use Rattle.sasi_tables.specs.TablesView.{IsOfParts, memory_of};
-ghost use Rattle.sasi_store.specs.StoreView.{HasNoneOut};
+ghost use Rattle.sasi_types.specs.declared.kit_fault.KitFault.TheVariants.{OutOfMemory};
+ghost use Rattle.sasi_views.specs.Kept.{IsCounted};
+ghost use Rattle.sasi_views.specs.declared.part.Part.{Part as AnyPart};
+ghost use Rattle.sasi_store.specs.Cursors.{HasFewOut};
 ghost use Rattle.sasi_store.specs.Worlds.{rows_tail, selection_checks};
 
 use crate::session_state::SessionState;
@@ -25,6 +28,7 @@ use sasi_machine::{Reply, Selection};
 use sasi_plan::{Plan, Reader};
 use sasi_print::checked;
 use sasi_tables::{Parts, StepFault, view_parts};
+use sasi_types::KitFault;
 use sasi_views::ViewBook;
 use std::alloc::AllocError;
 
@@ -44,7 +48,7 @@ pub fn select<H: Host>(
     requires parts { IsOfParts parts.now }
     requires classes { KnowsClasses (map (λ b. kind (b.vtable, b.value)) kit.old.objects.items) (memory_of parts.now) }
     requires there { IsSelectable (memory_of parts.now) rows.now }
-    requires none_out { HasNoneOut session.old.views }
+    requires few { HasFewOut session.old.views }
     ensures ok { OnOk result ((l : Layout) → Serves (H.view host.old) (memory_of parts.now) l → reply.new ≡ reply.old ++ (answer_rows (state_of l) rows.now ++ rows_tail session.old.trace (selection_checks l rows.now))) }
     // Where a relation is on an indexed column, the bound supposes files of at most 2^40 bytes.
     ensures reads { (l : Layout) → Serves (H.view host.old) (memory_of parts.now) l → HasShortFiles (H.view host.old).files l rows.now → (H.view host.new).reads ≤ (H.view host.old).reads + selection_reads (H.view host.old).files l rows.now }
@@ -57,7 +61,8 @@ pub fn select<H: Host>(
     ensures causes { StepCauses (H.view host.old) (H.view host.new) result }
     ensures trace { session.new.trace ≡ session.old.trace }
     // The view is given back, also where it fails.
-    ensures back { HasNoneOut session.new.views }
+    ensures back { (out : List (List AnyPart)) → IsCounted session.old.views out → IsCounted session.new.views out }
+    ensures cursors { session.new.cursors ≡ session.old.cursors }
 {
     let candidates = answer(parts, &mut session.views, host, kit, rows, reply)?;
     print_checked(session, candidates, reply)?;
@@ -91,7 +96,7 @@ fn answer<H: Host>(
     requires parts { IsOfParts parts.now }
     requires classes { KnowsClasses (map (λ b. kind (b.vtable, b.value)) kit.old.objects.items) (memory_of parts.now) }
     requires there { IsSelectable (memory_of parts.now) rows.now }
-    requires none_out { HasNoneOut views.old }
+    requires few { HasFewOut views.old }
     ensures ok { OnOk result ((l : Layout) → Serves (H.view host.old) (memory_of parts.now) l → reply.new ≡ reply.old ++ answer_rows (state_of l) rows.now) }
     ensures counted { IfOk result (λ checked. (l : Layout) → Serves (H.view host.old) (memory_of parts.now) l → checked ≡ selection_checks l rows.now) }
     // Where a relation is on an indexed column, the bound supposes files of at most 2^40 bytes.
@@ -104,13 +109,33 @@ fn answer<H: Host>(
     ensures changes { Changes Same (H.view host.old) (H.view host.new) }
     ensures causes { StepCauses (H.view host.old) (H.view host.new) result }
     // The view is given back, also where it fails.
-    ensures back { HasNoneOut views.new }
+    ensures back { (out : List (List AnyPart)) → IsCounted views.old out → IsCounted views.new out }
 {
+    let plan = plan_for(parts, host, kit, rows)?;
+    Ok(read_plan(parts, views, host, kit, rows, plan, reply)?)
+}
+
+/// The plan of a SELECT on its table. No call is made.
+pub fn plan_for<H: Host>(
+    parts: &Parts,
+    host: &H,
+    kit: &mut Kit,
+    rows: &Selection,
+) -> Result<Plan, KitFault>
+    requires ready { CanChange (H.view host.now) (memory_of parts.now) }
+    requires classes { KnowsClasses (map (λ b. kind (b.vtable, b.value)) kit.old.objects.items) (memory_of parts.now) }
+    requires there { IsSelectable (memory_of parts.now) rows.now }
+    ensures plan { IfOk result (λ plan. IsPlanFor parts.now rows.now plan) }
+    ensures known { IfOk result (λ plan. KnowsWhere (map (λ b. kind (b.vtable, b.value)) kit.old.objects.items) plan.conditions) }
+    ensures memory { IfErr result (λ fault. fault ≡ OutOfMemory) }
+    ensures kinds { map (λ b. kind (b.vtable, b.value)) kit.new.objects.items ≡ map (λ b. kind (b.vtable, b.value)) kit.old.objects.items }
+{
+    let _ = host;
     let listing = parts.manifest.listing();
     let index = rows.table as usize - 1;
     let table = &listing.tables.as_slice()[index].table;
     let plan = Plan::new(parts.alloc, &rows.select, table, listing.partitioner, kit)?;
-    Ok(read_plan(parts, views, host, kit, rows, plan, reply)?)
+    Ok(plan)
 }
 
 // Prints the rows of a plan. Pages that are read again and again are kept until the last row.
@@ -127,7 +152,7 @@ fn read_plan<H: Host>(
     requires parts { IsOfParts parts.now }
     requires plan { IsPlanFor parts.now rows.now plan }
     requires known { KnowsWhere (map (λ b. kind (b.vtable, b.value)) kit.old.objects.items) plan.conditions }
-    requires none_out { HasNoneOut views.old }
+    requires few { HasFewOut views.old }
     ensures ok { OnOk result ((l : Layout) → Serves (H.view host.old) (memory_of parts.now) l → reply.new ≡ reply.old ++ answer_rows (state_of l) rows.now) }
     ensures counted { IfOk result (λ checked. (l : Layout) → Serves (H.view host.old) (memory_of parts.now) l → checked ≡ selection_checks l rows.now) }
     ensures reads { (l : Layout) → Serves (H.view host.old) (memory_of parts.now) l → HasShortFiles (H.view host.old).files l rows.now → (H.view host.new).reads ≤ (H.view host.old).reads + selection_reads (H.view host.old).files l rows.now }
@@ -136,7 +161,7 @@ fn read_plan<H: Host>(
     ensures kinds { map (λ b. kind (b.vtable, b.value)) kit.new.objects.items ≡ map (λ b. kind (b.vtable, b.value)) kit.old.objects.items }
     ensures changes { Changes Same (H.view host.old) (H.view host.new) }
     ensures causes { ScanCauses (H.view host.old) (H.view host.new) result }
-    ensures back { HasNoneOut views.new }
+    ensures back { (out : List (List AnyPart)) → IsCounted views.old out → IsCounted views.new out }
 {
     if !plan.asks_indexes() {
         return read_view(parts, views, host, &mut Direct, kit, rows, plan, reply);
@@ -160,7 +185,7 @@ fn read_view<H: Host, P: PageReader>(
     requires parts { IsOfParts parts.now }
     requires plan { IsPlanFor parts.now rows.now plan }
     requires known { KnowsWhere (map (λ b. kind (b.vtable, b.value)) kit.old.objects.items) plan.conditions }
-    requires none_out { HasNoneOut views.old }
+    requires few { HasFewOut views.old }
     requires agrees { P.agrees pages.old (H.view host.old).files }
     ensures ok { OnOk result ((l : Layout) → Serves (H.view host.old) (memory_of parts.now) l → reply.new ≡ reply.old ++ answer_rows (state_of l) rows.now) }
     ensures counted { IfOk result (λ checked. (l : Layout) → Serves (H.view host.old) (memory_of parts.now) l → checked ≡ selection_checks l rows.now) }
@@ -170,7 +195,7 @@ fn read_view<H: Host, P: PageReader>(
     ensures kinds { map (λ b. kind (b.vtable, b.value)) kit.new.objects.items ≡ map (λ b. kind (b.vtable, b.value)) kit.old.objects.items }
     ensures changes { Changes Same (H.view host.old) (H.view host.new) }
     ensures causes { ScanCauses (H.view host.old) (H.view host.new) result }
-    ensures back { HasNoneOut views.new }
+    ensures back { (out : List (List AnyPart)) → IsCounted views.old out → IsCounted views.new out }
 {
     let current = view_parts(parts.alloc, parts, rows.table)?;
     let view = views.take(current)?;

@@ -1,4 +1,7 @@
 // What a run adds to a store.
+use sasi_cursors::Cursors;
+use sasi_fetch::Cursor;
+use sasi_types::TableNumber;
 use sasi_views::ViewBook;
 
 /// What a store keeps for the run that uses it, and nothing keeps after it.
@@ -6,6 +9,15 @@ use sasi_views::ViewBook;
 pub struct SessionState {
     /// TRACE is on: each SELECT tells how many candidates it checked.
     pub trace: bool,
-    /// The views that are out.
+    /// The views that are out: those of the cursors, between two statements.
     pub views: ViewBook,
+    /// The open cursors by their names.
+    pub cursors: Cursors<OpenCursor>,
+}
+
+/// An open cursor.
+#[derive(Drop)]
+pub struct OpenCursor {
+    pub table: TableNumber,
+    pub rows: Cursor,
 }

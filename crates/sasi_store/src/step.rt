@@ -1,6 +1,5 @@
 // Steps.
 ghost use Rattle.std.specs.Prelude.{◌≡◌, ◌<◌, ◌^◌, OnOk, map};
-ghost use Rattle.sasi_layout.specs.Classes.{KnowsClasses};
 ghost use Rattle.sasi_layout.specs.Serving.{CanChange, known_in_memory};
 ghost use Rattle.sasi_machine.specs.Prepares.{IsStateOf};
 ghost use Rattle.sasi_model.specs.Pieces.{piece_of};
@@ -9,15 +8,16 @@ ghost use Rattle.sasi_model.specs.State.{State};
 ghost use Rattle.sasi_store.specs.Answers.{NeedsNoFile};
 ghost use Rattle.sasi_store.specs.Steps.{StepPromises};
 ghost use Rattle.sasi_tables.specs.TablesView.{IsOfParts, memory_of};
-ghost use Rattle.sasi_store.specs.StoreView.{HasNoneOut};
-ghost use Rattle.sasi_store.specs.Worlds.{HasNoCursor};
+ghost use Rattle.sasi_store.specs.Cursors.{AreCursors, HasNamesOf};
+ghost use Rattle.sasi_store.specs.StoreView.{KnowsAll};
 
+use crate::cursors::{close, fetch, open};
 use crate::select::select;
 use crate::session_state::SessionState;
 use crate::show_files::show_files;
 use sasi_analyzers::Kit;
 use sasi_host::Host;
-use sasi_machine::{Outcome, Prepared, Refusal, Reply, open_refusal, prepare, refuse};
+use sasi_machine::{Outcome, Prepared, Reply, prepare};
 use sasi_tables::{Parts, StepFault, check_class, create, define, flush_unless_empty, write};
 use sasi_types::{PieceEnd, TableNumber};
 
@@ -33,13 +33,12 @@ pub fn step<H: Host>(
 ) -> Result<Outcome, StepFault>
     requires ready { CanChange (H.view host.old) (memory_of parts.old) }
     requires parts { IsOfParts parts.old }
-    requires classes { KnowsClasses (map (λ b. kind (b.vtable, b.value)) kit.old.objects.items) (memory_of parts.old) }
-    requires none_out { HasNoneOut session.old.views }
+    requires classes { KnowsAll (map (λ b. kind (b.vtable, b.value)) kit.old.objects.items) parts.old session.old }
+    requires cursors { AreCursors (H.view host.old).files parts.old session.old }
     ensures kinds { map (λ b. kind (b.vtable, b.value)) kit.new.objects.items ≡ map (λ b. kind (b.vtable, b.value)) kit.old.objects.items }
     ensures steps { StepPromises (map (λ b. kind (b.vtable, b.value)) kit.old.objects.items) (piece_of end piece.now) (H.view host.old) (H.view host.new) parts.old parts.new session.old session.new reply.new result }
-    ensures no_file_call { (x : ModelSession) (s : State) → HasNoCursor x → IsStateOf (known_in_memory (memory_of parts.old)) s → NeedsNoFile x s (piece_of end piece.now) → host.new ≡ host.old }
+    ensures no_file_call { (x : ModelSession) (s : State) → HasNamesOf session.old.cursors x → IsStateOf (known_in_memory (memory_of parts.old)) s → NeedsNoFile x s (piece_of end piece.now) → host.new ≡ host.old }
     ensures parts { OnOk result (IsOfParts parts.new) }
-    ensures back { HasNoneOut session.new.views }
 {
     match prepare(
         parts.alloc,
@@ -83,9 +82,9 @@ pub fn step<H: Host>(
             show_files(parts, &session.views, reply)?;
             Ok(Outcome::Done)
         }
-        Prepared::Open(asked) => Ok(refuse(reply, open_refusal(&asked))?),
-        Prepared::Fetch(asked) => Ok(refuse(reply, Refusal::NoCursor(asked.cursor))?),
-        Prepared::Close(cursor) => Ok(refuse(reply, Refusal::NoCursor(cursor))?),
+        Prepared::Open(asked) => open(parts, session, host, kit, asked, reply),
+        Prepared::Fetch(asked) => fetch(parts, session, host, kit, asked, reply),
+        Prepared::Close(cursor) => Ok(close(parts, session, host, cursor, reply)?),
     }
 }
 

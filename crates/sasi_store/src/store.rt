@@ -6,31 +6,33 @@ ghost use Rattle.sasi_host.specs.View.{DiskCauses, counted};
 ghost use Rattle.sasi_model.specs.Asked.{NoChange, asks, class_needed};
 ghost use Rattle.sasi_model.specs.Pieces.{piece_of};
 ghost use Rattle.sasi_model.specs.Refusals.{read};
-ghost use Rattle.sasi_model.specs.Sessions.{SessionState as ModelSession};
+ghost use Rattle.sasi_model.specs.Sessions.{SessionState as ModelSession, new_session};
 ghost use Rattle.sasi_model.specs.State.{State};
 ghost use Rattle.sasi_folder.specs.Damages.{FolderShows};
 ghost use Rattle.sasi_folder.specs.Opens.{CanOpen};
 ghost use Rattle.sasi_layout.specs.Between.{Between};
 ghost use Rattle.sasi_layout.specs.Layout.{Layout};
 ghost use Rattle.sasi_analyzers.specs.Kits.{has_class};
-ghost use Rattle.sasi_layout.specs.Classes.{HasNeeded, KnowsClasses, LacksNeeded};
+ghost use Rattle.sasi_layout.specs.Classes.{HasNeeded, LacksNeeded};
 ghost use Rattle.sasi_layout.specs.Serving.{Ended, closed, known_in_memory};
 ghost use Rattle.sasi_layout.specs.Shape.{ShapeOf};
 ghost use Rattle.sasi_layout.specs.Spent.{spent};
-ghost use Rattle.sasi_machine.specs.Prepares.{IsQuery, IsStateOf};
+ghost use Rattle.sasi_machine.specs.Prepares.{IsStateOf};
 ghost use Rattle.sasi_recover.specs.Faults.{OnDiffers, OnMissing, OpenCauses};
 ghost use Rattle.sasi_recover.specs.OpenedFolder.{AnyFolderChange};
 ghost use Rattle.sasi_recover.specs.Promises.{OpensSafely, ReportsTruly};
-ghost use Rattle.sasi_store.specs.Answers.{Answered, AnsweredButRows, NeedsNoFile};
+ghost use Rattle.sasi_store.specs.Answers.{Answered, AnsweredButRows, NeedsNoFile, ReadsRows};
 ghost use Rattle.sasi_tables.specs.Faults.{OnMissing as OnMissingClass, OnSpent, OnStepDamage, StepCauses};
 ghost use Rattle.sasi_tables.specs.Frames.{KeepsFilesOf, KeepsListed};
 ghost use Rattle.sasi_store.specs.Selects.{HasShortRows, select_reads};
-ghost use Rattle.sasi_store.specs.StoreView.{IsReady, store_memory};
-ghost use Rattle.sasi_store.specs.Worlds.{HasNoCursor, ServesWorld, World, new_world, steps};
+ghost use Rattle.sasi_store.specs.Cursors.{HasNamesOf};
+ghost use Rattle.sasi_store.specs.StoreView.{IsReady, KnowsStore, store_memory};
+ghost use Rattle.sasi_store.specs.Worlds.{ServesWorld, World, new_world, steps};
 
 use crate::session_state::SessionState;
 use crate::step::step;
 use sasi_analyzers::Kit;
+use sasi_cursors::Cursors;
 use sasi_host::{Failed, Host};
 use sasi_machine::{Outcome, Reply};
 use sasi_recover::OpenFault;
@@ -59,10 +61,11 @@ impl Store {
         ensures ready { IfOk result (λ store. IsReady (H.view host.new) store) }
         ensures state { IfOk result (λ store. (s : State) × IsStateOf (known_in_memory (store_memory store)) s) }
         ensures serves { (folder : Folder) (l : Layout) → (H.view host.old).files ≡ Some folder → ShapeOf asked folder l → IfOk result (λ store. ServesWorld (H.view host.new) store (new_world l)) }
+        ensures no_cursors { IfOk result (λ store. HasNamesOf store.session.cursors new_session) }
         ensures opens { (folder : Folder) → (H.view host.old).files ≡ Some folder → OnOk result (CanOpen folder) }
         ensures safe { OpensSafely asked (H.view host.old) (H.view host.new) }
         // An analyzer is there for each index.
-        ensures classes { IfOk result (λ store. KnowsClasses (map (λ b. kind (b.vtable, b.value)) kit.old.objects.items) (store_memory store)) }
+        ensures classes { IfOk result (λ store. KnowsStore (map (λ b. kind (b.vtable, b.value)) kit.old.objects.items) store) }
         ensures kinds { map (λ b. kind (b.vtable, b.value)) kit.new.objects.items ≡ map (λ b. kind (b.vtable, b.value)) kit.old.objects.items }
         ensures reports { ReportsTruly asked (map (λ b. kind (b.vtable, b.value)) kit.old.objects.items) (H.view host.old) result }
         // A folder that keeps another partitioner, or that needs an analyzer that isn't there, stays as it is.
@@ -76,11 +79,14 @@ impl Store {
         let Ok(parts) = parts_of(alloc, kit, opened) else {
             return Err(OpenFault::OutOfMemory);
         };
+        let views = ViewBook::new(alloc);
+        let cursors = Cursors::new(alloc);
         Ok(Store {
             parts,
             session: SessionState {
                 trace: false,
-                views: ViewBook::new(alloc),
+                views,
+                cursors,
             },
             steps: 0,
             usable: true,
@@ -98,23 +104,23 @@ impl Store {
         reply: &mut Reply,
     ) -> Result<Outcome, StepFault>
         requires ready { IsReady (H.view host.old) self.old }
-        requires classes { KnowsClasses (map (λ b. kind (b.vtable, b.value)) kit.old.objects.items) (store_memory self.old) }
+        requires classes { KnowsStore (map (λ b. kind (b.vtable, b.value)) kit.old.objects.items) self.old }
         ensures answers { IfOk result (λ outcome. (w : World) → ServesWorld (H.view host.old) self.old w → Answered (H.view host.new) self.new.parts self.new.session w (piece_of end piece.now) reply.new outcome) }
-        ensures everywhere { IfOk result (λ outcome. (x : ModelSession) (s : State) → HasNoCursor x → IsStateOf (known_in_memory (store_memory self.old)) s → AnsweredButRows self.new.parts self.new.session x s (piece_of end piece.now) reply.new outcome) }
+        ensures everywhere { IfOk result (λ outcome. (x : ModelSession) (s : State) → HasNamesOf self.old.session.cursors x → IsStateOf (known_in_memory (store_memory self.old)) s → AnsweredButRows self.new.parts self.new.session x s (piece_of end piece.now) reply.new outcome) }
         ensures ready { OnOk result (IsReady (H.view host.new) self.new) }
         ensures any_moment { (w : World) → ServesWorld (H.view host.old) self.old w → Changes (λ x y. Between w.layout (steps.moves w (piece_of end piece.now)) y) (H.view host.old) (H.view host.new) }
         ensures spent { IfErr result (OnSpent (λ kind. (w : World) → ServesWorld (H.view host.old) self.old w → spent w.layout (steps.moves w (piece_of end piece.now)) ≡ Some kind)) }
-        // An analyzer is there for each index, also for a new one. Where none is for a new one, no number was looked at.
-        ensures classes { OnOk result (KnowsClasses (map (λ b. kind (b.vtable, b.value)) kit.new.objects.items) (store_memory self.new)) }
+        // An analyzer is there for each index, also for a new one, and for each cursor. Where none is for a new one, no number was looked at.
+        ensures classes { OnOk result (KnowsStore (map (λ b. kind (b.vtable, b.value)) kit.new.objects.items) self.new) }
         ensures kinds { map (λ b. kind (b.vtable, b.value)) kit.new.objects.items ≡ map (λ b. kind (b.vtable, b.value)) kit.old.objects.items }
         ensures needed { IfOk result (λ outcome. HasNeeded (map (λ b. kind (b.vtable, b.value)) kit.old.objects.items) (class_needed (asks (known_in_memory (store_memory self.old)) (piece_of end piece.now)))) }
         ensures needed_first { IfErr result (OnSpent (λ _. HasNeeded (map (λ b. kind (b.vtable, b.value)) kit.old.objects.items) (class_needed (asks (known_in_memory (store_memory self.old)) (piece_of end piece.now))))) }
         ensures missing { IfErr result (OnMissingClass (LacksNeeded (map (λ b. kind (b.vtable, b.value)) kit.old.objects.items) (asks (known_in_memory (store_memory self.old)) (piece_of end piece.now)))) }
         ensures damaged { (folder : Folder) → (H.view host.new).files ≡ Some folder → IfErr result (OnStepDamage (FolderShows folder)) }
         ensures undamaged { (w : World) → ServesWorld (H.view host.old) self.old w → IfErr result (OnStepDamage (λ _. ⊥)) }
-        ensures no_file_call { (x : ModelSession) (s : State) → HasNoCursor x → IsStateOf (known_in_memory (store_memory self.old)) s → NeedsNoFile x s (piece_of end piece.now) → host.new ≡ host.old }
+        ensures no_file_call { (x : ModelSession) (s : State) → HasNamesOf self.old.session.cursors x → IsStateOf (known_in_memory (store_memory self.old)) s → NeedsNoFile x s (piece_of end piece.now) → host.new ≡ host.old }
         ensures reads_only { asks (known_in_memory (store_memory self.old)) (piece_of end piece.now) ≡ NoChange → Changes Same (H.view host.old) (H.view host.new) }
-        ensures unread { (IsQuery (read (piece_of end piece.now)) → ⊥) → (H.view host.new).reads ≡ (H.view host.old).reads }
+        ensures unread { (ReadsRows (read (piece_of end piece.now)) → ⊥) → (H.view host.new).reads ≡ (H.view host.old).reads }
         // The bound on what a SELECT reads supposes files of at most 2^40 bytes where a relation is on an indexed column.
         ensures reads { (w : World) → ServesWorld (H.view host.old) self.old w → HasShortRows (H.view host.old).files w.layout (read (piece_of end piece.now)) → (H.view host.new).reads ≤ (H.view host.old).reads + select_reads (H.view host.old).files w.layout (read (piece_of end piece.now)) }
         ensures changes { Changes AnyFolderChange (H.view host.old) (H.view host.new) }
@@ -154,7 +160,7 @@ impl Store {
         self.usable
     }
 
-    /// Ends the use of the store: the folder is left with the files of its tables and of the log alone.
+    /// Ends the use of the store. Its cursors are closed, and the folder is left with the files of its tables and of the log alone.
     pub fn finish<H: Host>(self, host: &mut H) -> Result<(), Failed>
         requires { IsReady (H.view host.old) self }
         ensures ends { OnOk result ((w : World) → ServesWorld (H.view host.old) self w → Ended (H.view host.new) (closed w.layout)) }

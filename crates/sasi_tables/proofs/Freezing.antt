@@ -1,5 +1,5 @@
 -- The freeze of a table's memtable: what the store serves then, and that it is ready.
-use Rattle.std.proofs.Common.{◌≡◌, ◌-◌, ◌<◌, Bool, true, false, cond, nat_eq, ℕ, suc, List, [], ◌∷◌, ◌++◌, map, slice_get, Option, Some, refl, sym, ap, subst, ◌∙◌}
+use Rattle.std.proofs.Common.{◌≡◌, ◌-◌, ◌<◌, Bool, true, false, cond, nat_eq, ℕ, suc, List, [], ◌∷◌, ◌++◌, map, slice_get, Option, Some, refl, sym, ap, subst, ◌∙◌, not, ◌||◌}
 use Rattle.std.specs.FinMap as map_
 use Rattle.std.specs.List.{AllByRecursion}
 use Rattle.std.specs.Option.{option_map_or}
@@ -30,6 +30,10 @@ use Rattle.sasi_tables.specs.declared.parts.Parts.{Parts}
 use Rattle.sasi_tables.proofs.Composition.{numbered_at}
 use Rattle.sasi_tables.proofs.TablesInMemory.{all_at, all_push, all_set, map_there, seen_as, set_numbered, unseen_set}
 use Rattle.sasi_types.specs.declared.partitioner.Partitioner.{Partitioner}
+use Rattle.sasi_tables.proofs.HeldMaps.{one_there, set_at}
+use Rattle.std.specs.Prelude.{◌==◌}
+use Rattle.sasi_model.specs.Cells.{Partition}
+use Rattle.sasi_types.specs.DecoratedKey.{decorated_cmp}
 use Rattle.std.proofs.lemmas.List.{map-append}
 
 -- ---- the store in memory
@@ -174,3 +178,14 @@ module _ (p new : Parts) (of : IsOfParts p) (table : ℕ) (some : 0 < table) (t 
 -- **A freeze of one that is empty changes nothing.**
 pub empty_memory : (p : Parts) (table : ℕ) (t : HeldTable) → slice_get (held_in p) (table - 1) ≡ Some t → (b : Bool) → b ≡ false → b ≡ any_partition (t.memtable.partitions ∷ []) → memory_of p ≡ frozen_where table (memory_of p)
 empty_memory p table t there b none is = sym (frozen_is table (memory_of p) (in_memory t) (map_there in_memory (held_in p) (table - 1) t there) false (sym none ∙ is))
+
+-- ---- the memtable then
+
+none_held : any_partition (map_.empty {X = Partition} {R = decorated_cmp} ∷ []) ≡ false
+none_held = ap (λ (n : ℕ). not (n == 0) || false) (sym (map_.len-entries (map_.empty {X = Partition} {R = decorated_cmp})) ∙ map_.len-empty decorated_cmp Partition)
+
+-- **It holds nothing.**
+pub frozen_empty : (p new : Parts) (at : ℕ) (t : HeldTable) → slice_get (held_in p) at ≡ Some t → HasFrozen at t p new → (u : HeldTable) → slice_get (held_in new) at ≡ Some u → any_partition (u.memtable.partitions ∷ []) ≡ false
+frozen_empty p new at t there is u found =
+    let now = ap (λ (l : List HeldTable). slice_get l at) is.held ∙ set_at (held_in p) at t _ there in
+    ap (λ (r : HeldTable). any_partition (r.memtable.partitions ∷ [])) (one_there u _ (slice_get (held_in new) at) found now) ∙ none_held

@@ -40,3 +40,4 @@ pub mod FlushPrepared
 pub mod KnownClasses
 pub mod KnownThen
 pub mod ViewLists
+pub mod PinnedMaps

@@ -106,7 +106,7 @@ or_true : (a : Bool) {b : Bool} → b ≡ true → (a || b) ≡ true
 or_true true is = refl
 or_true false is = is
 
-file_named : (name : FileName) (fs : List ListedFile) (f : ListedFile) → Contains fs f → is_name_of f name ≡ true → have_name fs name ≡ true
+pub file_named : (name : FileName) (fs : List ListedFile) (f : ListedFile) → Contains fs f → is_name_of f name ≡ true → have_name fs name ≡ true
 file_named name [] f has own = absurd (none_in has)
 file_named name (g ∷ gs) f (zero, lt, same) own = ap (λ (h : ListedFile). is_name_of h name || have_name gs name) same ∙ ap (λ b. b || have_name gs name) own
 file_named name (g ∷ gs) f (suc k, lt, same) own = or_true (is_name_of g name) (file_named name gs f (k, omega (arith, lt), same) own)

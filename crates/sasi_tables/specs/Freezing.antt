@@ -1,5 +1,5 @@
 -- A freeze: the memtable of a table becomes its last frozen map, and a new one is empty.
-use Rattle.std.specs.Prelude.{◌≡◌, ℕ, ◌-◌, Bool, false, if◌then◌else◌, List, [], ◌∷◌, ◌++◌, slice_get, slice_set}
+use Rattle.std.specs.Prelude.{◌≡◌, ℕ, ◌-◌, Bool, true, false, if◌then◌else◌, List, [], ◌∷◌, ◌++◌, Some, slice_get, slice_set}
 use Rattle.std.specs.Option.{option_map_or}
 use Rattle.std.specs.FinMap as map_
 use Rattle.sasi_layout.specs.Layout.{Layout, numbered}
@@ -37,3 +37,16 @@ pub record HasFrozen (index : ℕ) (t : HeldTable) (old new : Parts) : Type 0 wh
   pub held : held_in new ≡ slice_set (held_in old) index (record t { frozen = t.frozen ++ t.memtable ∷ []; memtable = empty_memtable old.manifest.listing.partitioner })
   pub mapped : AreMapped new.maps new.last_map (wanted_of new) new.tables.items
   pub rest : new ≡ record old { tables = new.tables; maps = new.maps; last_map = new.last_map }
+
+-- so where it holds anything, and else nothing is changed
+abbrev pub HasFrozenIf : Bool → ℕ → HeldTable → Parts → Parts → Type 0
+HasFrozenIf true index t old new = HasFrozen index t old new
+HasFrozenIf false index t old new = new ≡ old
+
+-- **The table with this number is frozen if its memtable holds anything.**
+abbrev pub HasFrozenWhere : ℕ → Parts → Parts → Type 0
+HasFrozenWhere table old new = (t : HeldTable) → slice_get (held_in old) (table - 1) ≡ Some t → HasFrozenIf (any_partition (t.memtable.partitions ∷ [])) (table - 1) t old new
+
+-- its memtable holds nothing
+abbrev pub HasEmptyMemtable : ℕ → Parts → Type 0
+HasEmptyMemtable table p = (t : HeldTable) → slice_get (held_in p) (table - 1) ≡ Some t → any_partition (t.memtable.partitions ∷ []) ≡ false

@@ -1,6 +1,6 @@
 -- The maps of tables in memory, frozen ones and memtables: they stand in a book under numbers of their own, each with the indexes of its table.
 use Rattle.std.specs.Prelude.{◌≡◌, ◌⊎◌, ◌<◌, ◌≤◌, ◌-◌, ◌++◌, ◌∷◌, [], ℕ, suc, false, nat_eq, List, Contains, length, map, slice_get, slice_set, Option, None, Some, IsSome, ⊤}
-use Rattle.std.specs.FinMap.{get}
+use Rattle.std.specs.FinMap.{get, remove}
 use Rattle.std.specs.List.{AllByRecursion, zip}
 use Rattle.std.specs.Option.{option_map, option_map_or}
 use Rattle.sasi_types.specs.Rule.{class_of}
@@ -211,6 +211,22 @@ pub record AreForgotten (views : ViewBook) (numbers : List ℕ) (book after : Bo
 -- the map with this number is one of a table's
 abbrev pub IsOfTable : List TableMaps → ℕ → Type 0
 IsOfTable tables number = (at : ℕ) × (t : TableMaps) × (slice_get tables at ≡ Some t) × Contains (numbers_of t) number
+
+-- the numbers of each table's maps rise
+abbrev pub HaveRising : List TableMaps → Type 0
+HaveRising tables = (at : ℕ) (t : TableMaps) → slice_get tables at ≡ Some t → Rise (numbers_of t)
+
+-- The map with this number is gone, where no table has it and no view lists it which is out. Else all maps stay.
+abbrev pub IsForgottenBut : List TableMaps → ViewBook → ℕ → Book → Book → Type 0
+IsForgottenBut tables views number book after =
+    ((after ≡ remove book number) × (IsOfTable tables number → ⊥) × (count_of views (Map number) ≡ 0)) ⊎ ((after ≡ book) × (IsOfTable tables number ⊎ (0 < count_of views (Map number))))
+
+-- **Of the maps with these numbers those are gone that no table has and no view lists which is out**, and all others stay.
+pub record AreForgottenBut (tables : List TableMaps) (views : ViewBook) (numbers : List ℕ) (book after : Book) : Type 0 where
+  pub gone : (number : ℕ) → Contains numbers number → count_of views (Map number) ≡ 0 → (IsOfTable tables number → ⊥) → get after number ≡ None
+  pub listed : (number : ℕ) → 0 < count_of views (Map number) → get after number ≡ get book number
+  pub own : (number : ℕ) → IsOfTable tables number → get after number ≡ get book number
+  pub others : (number : ℕ) → (Contains numbers number → ⊥) → get after number ≡ get book number
 
 -- The book has no maps but those of tables, and those that a view lists which is out.
 abbrev pub HasNoOthers : ViewBook → List TableMaps → Book → Type 0

@@ -12,5 +12,6 @@ pub mod Flushing
 pub mod ViewParts
 pub mod Frames
 pub mod Freezing
+pub mod Pinned
 pub mod Clearing
 pub mod MergedMaps

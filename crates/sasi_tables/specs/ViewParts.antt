@@ -21,6 +21,14 @@ listed_parts files numbers = map file_part files ++ map (λ number. Map number) 
 abbrev pub table_numbers : List TableMaps → ℕ → List ℕ
 table_numbers tables table = option_map_or numbers_of (slice_get tables (table - 1)) []
 
+-- those of its frozen maps
+abbrev pub frozen_numbers : List TableMaps → ℕ → List ℕ
+frozen_numbers tables table = option_map_or (λ (t : TableMaps). t.frozen) (slice_get tables (table - 1)) []
+
 -- **The current parts of the table with this number**: its listed data files, rising by number, its frozen maps, the oldest first, and its memtable.
 abbrev pub current_parts : Parts → ℕ → List Part
 current_parts p table = listed_parts (files_of p.manifest.listing.tables table) (table_numbers p.tables.items table)
+
+-- **The same without the memtable**, which is what a cursor sees of the table.
+abbrev pub aside_parts : Parts → ℕ → List Part
+aside_parts p table = listed_parts (files_of p.manifest.listing.tables table) (frozen_numbers p.tables.items table)

@@ -5,8 +5,10 @@ ghost use Rattle.sasi_layout.specs.Statements.{moves_asked};
 ghost use Rattle.sasi_model.specs.Asked.{Creates};
 ghost use Rattle.sasi_schema.specs.Defined.{definition};
 ghost use Rattle.sasi_tables.specs.MakesMoves.{Knows, MakesMoves};
+ghost use Rattle.sasi_tables.specs.Pinned.{KeepsPinned};
 ghost use Rattle.sasi_tables.specs.TablesView.{IsOfParts, memory_of};
 ghost use Rattle.sasi_tables.specs.Writable.{IsCreatable};
+ghost use Rattle.sasi_views.specs.Books.{Book as AViewBook};
 
 use crate::StepFault;
 use crate::parts::Parts;
@@ -32,6 +34,7 @@ pub fn create<H: Host>(
     ensures makes { MakesMoves (λ l. moves_asked l (Creates (definition table))) (H.view host.old) (H.view host.new) (memory_of parts.old) (memory_of parts.new) result }
     ensures knows { OnOk result (Knows (memory_of parts.new) (parts.old.schema.definitions ++ definition table ∷ []) parts.old.max_timestamp) }
     ensures parts { OnOk result (IsOfParts parts.new) }
+    ensures pinned { OnOk result ((views : AViewBook) → KeepsPinned views parts.old parts.new) }
     ensures kinds { map (λ b. kind (b.vtable, b.value)) kit.new.objects.items ≡ map (λ b. kind (b.vtable, b.value)) kit.old.objects.items }
 {
     let edits = create_edits(parts.alloc, &table, parts.manifest.listing().last)?;

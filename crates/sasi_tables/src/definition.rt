@@ -10,8 +10,10 @@ ghost use Rattle.sasi_model.specs.State.{with_index};
 ghost use Rattle.sasi_schema.specs.SchemaViews.{index_of_new};
 ghost use Rattle.sasi_tables.specs.MakesMoves.{Knows, MakesMoves};
 ghost use Rattle.sasi_tables.specs.Numbers.{IsNextIndex, IsSpentIndex};
+ghost use Rattle.sasi_tables.specs.Pinned.{KeepsPinned};
 ghost use Rattle.sasi_tables.specs.TablesView.{IsOfParts, memory_of};
 ghost use Rattle.sasi_tables.specs.Writable.{IsDefinable};
+ghost use Rattle.sasi_views.specs.Books.{Book as AViewBook};
 
 use crate::StepFault;
 use crate::parts::Parts;
@@ -50,6 +52,7 @@ pub fn define<H: Host>(
     ensures makes { MakesMoves (λ l. moves_asked l (Defines index.table (index_of_new index))) (H.view host.old) (H.view host.new) (memory_of parts.old) (memory_of parts.new) result }
     ensures knows { OnOk result (Knows (memory_of parts.new) (at_number 1 index.table (with_index (index_of_new index)) parts.old.schema.definitions) parts.old.max_timestamp) }
     ensures parts { OnOk result (IsOfParts parts.new) }
+    ensures pinned { OnOk result ((views : AViewBook) → KeepsPinned views parts.old parts.new) }
     ensures kinds { map (λ b. kind (b.vtable, b.value)) kit.new.objects.items ≡ map (λ b. kind (b.vtable, b.value)) kit.old.objects.items }
 {
     let number = next_index(parts.numbers.index)?;

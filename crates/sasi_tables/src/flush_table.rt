@@ -12,6 +12,7 @@ ghost use Rattle.sasi_tables.specs.Floors.{IsUnflushed, floor_in_memory, lowered
 ghost use Rattle.sasi_tables.specs.Held.{AreMapped, HasNoOthers, HeldTable, held_of, in_memory};
 ghost use Rattle.sasi_tables.specs.Clearing.{IsCleared};
 ghost use Rattle.sasi_tables.specs.MakesMoves.{Knows, MakesMoves};
+ghost use Rattle.sasi_tables.specs.Pinned.{KeepsPinned};
 ghost use Rattle.sasi_tables.specs.Puts.{HasTableFor};
 ghost use Rattle.sasi_tables.specs.TablesView.{IsOfParts, held_in, memory_of, wanted_of};
 
@@ -44,6 +45,7 @@ pub fn flush_unless_empty<H: Host>(
     ensures parts { OnOk result (IsOfParts parts.new) }
     // Of the maps in the book it leaves those of tables, and those that a view lists.
     ensures others { HasNoOthers views.now parts.old.tables.items parts.old.maps → OnOk result (HasNoOthers views.now parts.new.tables.items parts.new.maps) }
+    ensures pinned { OnOk result (KeepsPinned views.now parts.old parts.new) }
     ensures kinds { map (λ b. kind (b.vtable, b.value)) kit.new.objects.items ≡ map (λ b. kind (b.vtable, b.value)) kit.old.objects.items }
 {
     if is_unflushed(&parts.tables, &parts.maps, table) {
@@ -70,6 +72,7 @@ pub fn flush_table<H: Host>(
     ensures parts { OnOk result (IsOfParts parts.new) }
     // Of the maps in the book it leaves those of tables, and those that a view lists.
     ensures others { HasNoOthers views.now parts.old.tables.items parts.old.maps → OnOk result (HasNoOthers views.now parts.new.tables.items parts.new.maps) }
+    ensures pinned { OnOk result (KeepsPinned views.now parts.old parts.new) }
     ensures kinds { map (λ b. kind (b.vtable, b.value)) kit.new.objects.items ≡ map (λ b. kind (b.vtable, b.value)) kit.old.objects.items }
 {
     let index = table as usize - 1;
@@ -106,6 +109,7 @@ fn clear(parts: &mut Parts, views: &ViewBook, kit: &mut Kit, index: usize) -> Re
     ensures cleared { OnOk result ((t : HeldTable) → slice_get (held_in parts.old) index ≡ Some t → IsCleared index t parts.old parts.new) }
     // Of the maps in the book it leaves those of tables, and those that a view lists.
     ensures others { HasNoOthers views.now parts.old.tables.items parts.old.maps → OnOk result (HasNoOthers views.now parts.new.tables.items parts.new.maps) }
+    ensures pinned { OnOk result (KeepsPinned views.now parts.old parts.new) }
     ensures kinds { map (λ b. kind (b.vtable, b.value)) kit.new.objects.items ≡ map (λ b. kind (b.vtable, b.value)) kit.old.objects.items }
 {
     let listing = parts.manifest.listing();

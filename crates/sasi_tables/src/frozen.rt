@@ -6,11 +6,13 @@ ghost use Rattle.sasi_layout.specs.Layout.{Layout};
 ghost use Rattle.sasi_layout.specs.Moves.{after_moves};
 ghost use Rattle.sasi_layout.specs.Serving.{CanChange, Serves};
 ghost use Rattle.sasi_manifest.specs.Listings.{listed_definitions};
-ghost use Rattle.sasi_tables.specs.Freezing.{HasFrozen, freeze_where, frozen_where};
+ghost use Rattle.sasi_tables.specs.Freezing.{HasEmptyMemtable, HasFrozen, HasFrozenWhere, freeze_where, frozen_where};
 ghost use Rattle.sasi_tables.specs.Held.{AreMapped, HeldTable};
 ghost use Rattle.sasi_tables.specs.MakesMoves.{Knows};
 ghost use Rattle.sasi_tables.specs.Puts.{HasTableFor};
+ghost use Rattle.sasi_tables.specs.Pinned.{KeepsPinned};
 ghost use Rattle.sasi_tables.specs.TablesView.{IsOfParts, held_in, memory_of, wanted_of};
+ghost use Rattle.sasi_views.specs.Books.{Book as AViewBook};
 
 use crate::parts::Parts;
 use crate::table_maps::{freeze_map, holds_any};
@@ -38,6 +40,9 @@ pub fn freeze<H: Host>(
     ensures memory { OnOk result (memory_of parts.new ≡ frozen_where table (memory_of parts.old)) }
     ensures knows { OnOk result (Knows (memory_of parts.new) parts.old.schema.definitions parts.old.max_timestamp) }
     ensures parts { OnOk result (IsOfParts parts.new) }
+    ensures frozen { OnOk result (HasFrozenWhere table parts.old parts.new) }
+    ensures empty { OnOk result (HasEmptyMemtable table parts.new) }
+    ensures pinned { OnOk result ((views : AViewBook) → KeepsPinned views parts.old parts.new) }
     ensures kinds { map (λ b. kind (b.vtable, b.value)) kit.new.objects.items ≡ map (λ b. kind (b.vtable, b.value)) kit.old.objects.items }
 {
     let _ = host;
@@ -53,6 +58,7 @@ fn freeze_held(parts: &mut Parts, kit: &mut Kit, index: usize) -> Result<(), All
     requires mapped { AreMapped parts.old.maps parts.old.last_map (wanted_of parts.old) parts.old.tables.items }
     requires known { AllByRecursion (KnowsIndexes (map (λ b. kind (b.vtable, b.value)) kit.old.objects.items)) (listed_definitions parts.old.manifest.listing.tables) }
     ensures frozen { OnOk result ((t : HeldTable) → slice_get (held_in parts.old) index ≡ Some t → HasFrozen index t parts.old parts.new) }
+    ensures pinned { OnOk result ((views : AViewBook) → KeepsPinned views parts.old parts.new) }
     ensures kinds { map (λ b. kind (b.vtable, b.value)) kit.new.objects.items ≡ map (λ b. kind (b.vtable, b.value)) kit.old.objects.items }
 {
     let listing = parts.manifest.listing();

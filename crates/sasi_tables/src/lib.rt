@@ -24,6 +24,6 @@ pub use fault::StepFault;
 pub use flush_table::flush_unless_empty;
 pub use frozen::freeze;
 pub use parts::{Parts, parts_of};
-pub use table_maps::{MapNumbers, TableMaps};
-pub use view_list::view_parts;
+pub use table_maps::{MapNumbers, TableMaps, forget_unused};
+pub use view_list::{aside_parts, view_parts};
 pub use writes::write;

@@ -1,5 +1,5 @@
 // The maps of tables in memory: frozen maps and memtables.
-ghost use Rattle.std.specs.Prelude.{◌≡◌, ◌≢◌, ◌+◌, ◌-◌, ◌<◌, ◌∷◌, [], IfOk, IsSome, OnOk, Some, length, map, slice_get};
+ghost use Rattle.std.specs.Prelude.{◌≡◌, ◌≢◌, ◌⊎◌, ◌↔◌, ◌+◌, ◌-◌, ◌<◌, ◌∷◌, [], Contains, IfOk, IsSome, IsTrue, OnOk, Some, length, map, slice_get};
 ghost use Rattle.std.specs.FinMap.{get, remove};
 ghost use Rattle.std.specs.List.{AllByRecursion, sum_by};
 ghost use Rattle.sasi_types.specs.declared.class.Class.{Class as AClass};
@@ -9,7 +9,7 @@ ghost use Rattle.sasi_layout.specs.Statements.{any_partition};
 ghost use Rattle.sasi_memindex.specs.Book.{CanAdd, CanChange, IsAdded, IsChanged, bare};
 ghost use Rattle.sasi_memtable.specs.Sizes.{byte_count, cell_count, saturated};
 ghost use Rattle.sasi_model.specs.Cells.{max_timestamp_of};
-ghost use Rattle.sasi_tables.specs.Held.{AreAdded, AreForgotten, CanAddAll, HasMapFor, HeldTable, IsAddedTo, IsAddedToAll, IsFrozen, IsPutIn, IsReplaced, KnowsDef, KnowsMap, OthersStay, Rise, held_of, in_memory, map_in, maps_with, numbers_of, unflushed_maps};
+ghost use Rattle.sasi_tables.specs.Held.{AreAdded, AreForgotten, AreForgottenBut, CanAddAll, HasMapFor, HaveRising, HeldTable, IsAddedTo, IsAddedToAll, IsForgottenBut, IsFrozen, IsOfTable, IsPutIn, IsReplaced, KnowsDef, KnowsMap, OthersStay, Rise, held_of, in_memory, map_in, maps_with, numbers_of, unflushed_maps};
 ghost use Rattle.sasi_views.specs.Books.{count_of};
 ghost use Rattle.sasi_views.specs.declared.component.Component.TheVariants.{Map};
 ghost use Rattle.sasi_tables.specs.declared.table_maps.TableMaps.{TableMaps as ATableMaps};
@@ -296,6 +296,56 @@ pub fn forget(maps: &mut MapBook, views: &ViewBook, numbers: &[u64])
     for number in numbers {
         forget_one(maps, views, *number);
     }
+}
+
+/// Drops the maps with these numbers that no table has, but for those that a view lists which is out.
+pub fn forget_unused(maps: &mut MapBook, views: &ViewBook, tables: &[TableMaps], numbers: &[u64])
+    requires { HaveRising tables.now }
+    ensures { AreForgottenBut tables.now views.now numbers.now maps.old maps.new }
+{
+    for number in numbers {
+        forget_one_unused(maps, views, tables, *number);
+    }
+}
+
+// Drops the map with this number, unless a table has it or a view lists it.
+fn forget_one_unused(maps: &mut MapBook, views: &ViewBook, tables: &[TableMaps], number: u64)
+    requires { HaveRising tables.now }
+    ensures { IsForgottenBut tables.now views.now number maps.old maps.new }
+{
+    if has_map(tables, number) {
+        return;
+    }
+    forget_one(maps, views, number);
+}
+
+// Whether one of the tables has the map with this number.
+fn has_map(tables: &[TableMaps], number: u64) -> bool
+    requires { HaveRising tables.now }
+    ensures { IsTrue result ↔ IsOfTable tables.now number }
+{
+    for table in tables {
+        if has_number(table, number) {
+            return true;
+        }
+    }
+    false
+}
+
+// Whether the table has the map with this number.
+fn has_number(table: &TableMaps, number: u64) -> bool
+    requires { Rise table.now.frozen }
+    ensures { IsTrue result ↔ (Contains table.now.frozen number ⊎ (table.now.memtable ≡ number)) }
+{
+    is_among(table.frozen.as_slice(), number) || table.memtable == number
+}
+
+// Whether the number is one of these, which rise: a table may have many frozen maps.
+fn is_among(numbers: &[u64], number: u64) -> bool
+    requires { Rise numbers.now }
+    ensures { IsTrue result ↔ Contains numbers.now number }
+{
+    numbers.binary_search(&number).is_ok()
 }
 
 // Drops the map with this number, unless a view lists it.

@@ -1,6 +1,6 @@
 // The parts of views.
 ghost use Rattle.std.specs.Prelude.{◌≡◌, ◌++◌, ◌<◌, ◌≤◌, IfOk, OnOk, length, map};
-ghost use Rattle.sasi_tables.specs.ViewParts.{current_parts, file_part};
+ghost use Rattle.sasi_tables.specs.ViewParts.{aside_parts, current_parts, file_part};
 ghost use Rattle.sasi_views.specs.declared.part.Part.TheVariants.{Map};
 
 use crate::parts::Parts;
@@ -16,10 +16,22 @@ pub fn view_parts(alloc: Global, parts: &Parts, table: TableNumber) -> Result<Pa
     requires within { table ≤ length parts.now.tables.items }
     ensures { IfOk result (λ listed. listed ≡ current_parts parts.now table) }
 {
+    let mut listed = aside_parts(alloc, parts, table)?;
+    listed.push(Part::Map(parts.tables[table as usize - 1].memtable))?;
+    Ok(listed)
+}
+
+/// The same without the memtable: what doesn't change any more. A cursor's view lists them.
+pub fn aside_parts(alloc: Global, parts: &Parts, table: TableNumber) -> Result<PartList, AllocError>
+    requires some { 0 < table }
+    requires within { table ≤ length parts.now.tables.items }
+    ensures { IfOk result (λ listed. listed ≡ aside_parts parts.now table) }
+{
     let mut listed = file_parts(alloc, parts.manifest.listing().tables.files_of(table))?;
-    let table = &parts.tables[table as usize - 1];
-    list_maps(&mut listed, table.frozen.as_slice())?;
-    listed.push(Part::Map(table.memtable))?;
+    list_maps(
+        &mut listed,
+        parts.tables[table as usize - 1].frozen.as_slice(),
+    )?;
     Ok(listed)
 }
 

@@ -9,9 +9,11 @@ ghost use Rattle.sasi_model.specs.Cells.{max_timestamp_of};
 ghost use Rattle.sasi_types.specs.Token.{AreBytes};
 ghost use Rattle.sasi_tables.specs.Held.{HasMapFor, HeldTable, held_of, in_memory, unflushed_maps};
 ghost use Rattle.sasi_tables.specs.MakesMoves.{Knows, MakesMoves};
+ghost use Rattle.sasi_tables.specs.Pinned.{KeepsPinned};
 ghost use Rattle.sasi_tables.specs.Puts.{HasTableFor};
 ghost use Rattle.sasi_tables.specs.TablesView.{IsOfParts, held_in, memory_of};
 ghost use Rattle.sasi_tables.specs.Writable.{IsWritableMutation};
+ghost use Rattle.sasi_views.specs.Books.{Book as AViewBook};
 
 use crate::StepFault;
 use crate::flush_table::flush_table;
@@ -44,6 +46,7 @@ pub fn write<H: Host>(
     ensures makes { MakesMoves (λ l. moves_asked l (Writes mutation.table mutation.key mutation.change)) (H.view host.old) (H.view host.new) (memory_of parts.old) (memory_of parts.new) result }
     ensures knows { OnOk result (Knows (memory_of parts.new) parts.old.schema.definitions (max parts.old.max_timestamp (max_timestamp_of mutation.change))) }
     ensures parts { OnOk result (IsOfParts parts.new) }
+    ensures pinned { OnOk result (KeepsPinned views.now parts.old parts.new) }
     ensures kinds { map (λ b. kind (b.vtable, b.value)) kit.new.objects.items ≡ map (λ b. kind (b.vtable, b.value)) kit.old.objects.items }
 {
     let table = mutation.table;
@@ -66,6 +69,7 @@ fn flush_full<H: Host>(
     ensures makes { MakesMoves (flush_where are_full table) (H.view host.old) (H.view host.new) (memory_of parts.old) (memory_of parts.new) result }
     ensures knows { OnOk result (Knows (memory_of parts.new) parts.old.schema.definitions parts.old.max_timestamp) }
     ensures parts { OnOk result (IsOfParts parts.new) }
+    ensures pinned { OnOk result (KeepsPinned views.now parts.old parts.new) }
     ensures kinds { map (λ b. kind (b.vtable, b.value)) kit.new.objects.items ≡ map (λ b. kind (b.vtable, b.value)) kit.old.objects.items }
 {
     if is_full(&parts.tables, &parts.maps, table) {
@@ -97,6 +101,7 @@ fn put<H: Host>(
     ensures makes { MakesMoves (λ l. Put mutation ∷ []) (H.view host.old) (H.view host.new) (memory_of parts.old) (memory_of parts.new) result }
     ensures knows { OnOk result (Knows (memory_of parts.new) parts.old.schema.definitions (max parts.old.max_timestamp (max_timestamp_of mutation.change))) }
     ensures parts { OnOk result (IsOfParts parts.new) }
+    ensures pinned { OnOk result ((views : AViewBook) → KeepsPinned views parts.old parts.new) }
     ensures kinds { map (λ b. kind (b.vtable, b.value)) kit.new.objects.items ≡ map (λ b. kind (b.vtable, b.value)) kit.old.objects.items }
     ensures there { OnOk result (HasTableFor mutation.table (held_in parts.new)) }
 {

@@ -13,9 +13,9 @@ use Rattle.sasi_memtable.specs.MemtableView.{MemtableView}
 use Rattle.sasi_ranges.specs.declared.entry.Entry.{Entry}
 use Rattle.sasi_lookup.specs.Lookups.{Opens}
 use Rattle.sasi_lookup.proofs.Keeping.{lookup_keeps}
-use Rattle.sasi_recheck.specs.Growth.{IsGrown}
+use Rattle.sasi_memindex.specs.Growth.{IsGrown}
 use Rattle.sasi_recheck.specs.Sources.{Candidate}
-use Rattle.sasi_recheck.proofs.GrowthLaws.{grown_seen}
+use Rattle.sasi_memindex.proofs.GrowthLaws.{grown_seen}
 use Rattle.sasi_sources.specs.KeyCandidates.{HasKeyType}
 use Rattle.sasi_sources.specs.inside.KeyLaws.{views_stay}
 use Rattle.sasi_engine.specs.declared.hand.Hand.{Hand}

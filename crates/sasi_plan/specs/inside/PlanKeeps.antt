@@ -15,8 +15,8 @@ use Rattle.sasi_views.specs.declared.part.Part as view
 use Rattle.sasi_views.specs.declared.part.Part.TheVariants as view_part
 use Rattle.sasi_engine.specs.declared.relation.IndexedRelation.{IndexedRelation}
 use Rattle.sasi_engine.specs.Findable.{CanFind, HasIndexFor, HasIndexes}
-use Rattle.sasi_recheck.specs.Growth.{HasGrown, IsGrown}
-use Rattle.sasi_recheck.proofs.GrowthLaws.{found_before, grown_again}
+use Rattle.sasi_memindex.specs.Growth.{HasGrown, IsGrown}
+use Rattle.sasi_memindex.proofs.GrowthLaws.{found_before, grown_again}
 use Rattle.sasi_recheck.specs.Optional.{SourceOr}
 use Rattle.sasi_recheck.specs.Sources.{Candidate}
 use Rattle.sasi_sources.specs.KeyCandidates.{HasKeyType}

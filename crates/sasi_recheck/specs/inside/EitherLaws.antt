@@ -9,7 +9,7 @@ use Rattle.sasi_host.specs.declared.name.FileName.{FileName}
 use Rattle.sasi_host.specs.Names.{Folder}
 use Rattle.sasi_host.specs.View.{contents_in}
 use Rattle.sasi_memindex.specs.Book.{Book}
-use Rattle.sasi_recheck.specs.Growth.{IsGrown}
+use Rattle.sasi_memindex.specs.Growth.{IsGrown}
 use Rattle.sasi_recheck.specs.Sources.{Candidate}
 
 -- what the trait asks of a source

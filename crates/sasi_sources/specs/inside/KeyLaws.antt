@@ -14,8 +14,8 @@ use Rattle.sasi_memindex.specs.Book.{Book}
 use Rattle.sasi_memtable.specs.MemtableView.{MemtableView}
 use Rattle.sasi_scan.specs.Numbered.{views_numbered}
 use Rattle.sasi_scan.specs.Parts.{AreContents, HasContent}
-use Rattle.sasi_recheck.specs.Growth.{IsGrown}
-use Rattle.sasi_recheck.proofs.GrowthLaws.{grown_seen}
+use Rattle.sasi_memindex.specs.Growth.{IsGrown}
+use Rattle.sasi_memindex.proofs.GrowthLaws.{grown_seen}
 use Rattle.sasi_recheck.specs.Sources.{Candidate}
 use Rattle.sasi_sources.specs.KeyCandidates.{HasKeyType, IsKeyOf, IsListed, KeyLeaves, KeyPays}
 use Rattle.sasi_sources.specs.Maps.{IsOneOf}

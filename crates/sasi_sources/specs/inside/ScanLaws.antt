@@ -25,7 +25,7 @@ use Rattle.sasi_scan.specs.Scanning.{IsScanOf, ScanView}
 use Rattle.sasi_scan.specs.Sources.{CanStep, IsListedFile, IsListedSource, IsOpenIn}
 use Rattle.sasi_scan.specs.declared.source.Source.{Source}
 use Rattle.sasi_scan.specs.declared.source.Source.TheVariants.{File, Map}
-use Rattle.sasi_recheck.specs.Growth.{IsGrown}
+use Rattle.sasi_memindex.specs.Growth.{IsGrown}
 use Rattle.sasi_recheck.specs.Sources.{Candidate, first_price}
 use Rattle.sasi_sources.specs.KeyCandidates.{HasKeyType, IsListed}
 use Rattle.sasi_sources.specs.Maps.{IsOneOf}

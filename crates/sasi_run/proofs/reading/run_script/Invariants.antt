@@ -1,6 +1,5 @@
 use Rattle.std.proofs.Common.{◌≡◌, map, ◌≤◌, ◌-◌, ◌^◌}
-use Rattle.sasi_layout.specs.Classes.{KnowsClasses}
-use Rattle.sasi_store.specs.StoreView.{store_memory}
+use Rattle.sasi_store.specs.StoreView.{KnowsStore}
 use Rattle.sasi_run.specs.Crashing.{ReadsCrashSafe}
 use Rattle.sasi_run.specs.StatusCauses.{NothingFailed}
 use Rattle.sasi_run.proofs.reading.run_script.Given as goal
@@ -11,7 +10,7 @@ invariant-reads g l = record {
       (g.H.Host.view l.host) l.taken;
   few : l.taken ≤ 2 ^ 40;
   unfailed : NothingFailed (g.S.Source.view l.fn.script) (g.S.Source.view l.script) (g.H.Host.view l.fn.host) (g.H.Host.view l.host);
-  known : KnowsClasses (map (λ b. (goal.Analyzer-dyn g (b.vtable, b.value)).kind b.value) l.kit.objects.items) (store_memory l.session.store);
+  known : KnowsStore (map (λ b. (goal.Analyzer-dyn g (b.vtable, b.value)).kind b.value) l.kit.objects.items) l.session.store;
   kinds : map (λ b. (goal.Analyzer-dyn g (b.vtable, b.value)).kind b.value) l.kit.objects.items
       ≡ map (λ b. (goal.Analyzer-dyn g (b.vtable, b.value)).kind b.value) l.fn.kit.objects.items;
 }

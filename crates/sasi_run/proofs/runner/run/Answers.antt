@@ -1,4 +1,4 @@
-use Rattle.std.proofs.Common.{List, map, refl, subst}
+use Rattle.std.proofs.Common.{List, map, subst}
 use Rattle.std.specs.Prelude.{string_bytes}
 use Rattle.sasi_types.specs.declared.class.Class.{Class}
 use Rattle.sasi_run.specs.Causes.{RunCauses}
@@ -61,7 +61,7 @@ pub returns-clause-headline : goal.returns-clause-headline
 returns-clause-headline g c =
     headline_of _ _ _ _ _ _ (
     whole_opened _ c.run_store.result (g.S.Source.view c.args.script.now) (g.S.Source.view c.run_store.new.script) (g.H.Host.view c.args.host.now)
-    (g.H.Host.view c.open.new.host) (g.H.Host.view c.run_store.new.host) c.in-Ok.store c.in-Ok.ensures.state.0 (record { known = c.in-Ok.ensures.state.1; cursors = refl }) (g.met.H.Host.sound c.args.host.now)
+    (g.H.Host.view c.open.new.host) (g.H.Host.view c.run_store.new.host) c.in-Ok.store c.in-Ok.ensures.state.0 (record { known = c.in-Ok.ensures.state.1; cursors = c.in-Ok.ensures.no_cursors }) (g.met.H.Host.sound c.args.host.now)
     (g.met.H.Host.sound c.run_store.new.host) c.open.ensures.safe.changes.emitted (rw c.in-Some.ensures.asked at c.open.ensures.safe.any_moment)
     (rw c.in-Some.ensures.asked at c.in-Ok.ensures.serves) c.run_store.ensures.runs)
 
@@ -69,7 +69,7 @@ pub returns-clause-shapes : goal.returns-clause-shapes
 returns-clause-shapes g c =
     shapes_of _ _ _ _ _ _ (
     whole_opened _ c.run_store.result (g.S.Source.view c.args.script.now) (g.S.Source.view c.run_store.new.script) (g.H.Host.view c.args.host.now)
-    (g.H.Host.view c.open.new.host) (g.H.Host.view c.run_store.new.host) c.in-Ok.store c.in-Ok.ensures.state.0 (record { known = c.in-Ok.ensures.state.1; cursors = refl }) (g.met.H.Host.sound c.args.host.now)
+    (g.H.Host.view c.open.new.host) (g.H.Host.view c.run_store.new.host) c.in-Ok.store c.in-Ok.ensures.state.0 (record { known = c.in-Ok.ensures.state.1; cursors = c.in-Ok.ensures.no_cursors }) (g.met.H.Host.sound c.args.host.now)
     (g.met.H.Host.sound c.run_store.new.host) c.open.ensures.safe.changes.emitted (rw c.in-Some.ensures.asked at c.open.ensures.safe.any_moment)
     (rw c.in-Some.ensures.asked at c.in-Ok.ensures.serves) c.run_store.ensures.runs)
 
@@ -81,7 +81,7 @@ returns-clause-causes g c =
     (causes_opened _ c.run_store.result script (g.S.Source.view c.run_store.new.script) start (g.H.Host.view c.open.new.host)
     (g.H.Host.view c.run_store.new.host) c.in-Ok.store (c.in-Some.command, c.in-Some.ensures.some)
     (record {
-      state = (c.in-Ok.ensures.state.0, record { known = c.in-Ok.ensures.state.1; cursors = refl });
+      state = (c.in-Ok.ensures.state.0, record { known = c.in-Ok.ensures.state.1; cursors = c.in-Ok.ensures.no_cursors });
       silent = c.open.ensures.safe.changes.emitted;
       none_out = c.open.ensures.safe.changes.emits;
       opens = c.in-Ok.ensures.opens;

@@ -2,7 +2,7 @@ use Rattle.std.proofs.Common.{arith, ap, ◌∙◌, refl}
 use Rattle.std.proofs.lemmas.Result.{err_from_is_err_and}
 use Rattle.sasi_model.specs.Pieces.{piece_of}
 use Rattle.sasi_host.proofs.FailingLaws.{told_on}
-use Rattle.sasi_run.proofs.Answering.{answers_on, fails_moving, fails_shown, state_served}
+use Rattle.sasi_run.proofs.Answering.{answers_on, fails_moving, fails_shown, names_served, state_served}
 use Rattle.sasi_run.proofs.FailedCalls.{output_stops, output_went, step_stops, step_went}
 use Rattle.sasi_run.proofs.session.answer.Goals as goal
 
@@ -75,14 +75,14 @@ returns-clause-told g c = told_on _ _ _ c.step.ensures.changes.told c.emit_reply
 pub returns-in_err-outcome-clause-no_file_call : goal.returns-in_err-outcome-clause-no_file_call
 returns-in_err-outcome-clause-no_file_call g c w serves needs =
     let no_file_call = rw c.piece.ensures at c.step.ensures.no_file_call in
-    ap (λ h. (g.H.Host.view h).calls) (no_file_call _ _ serves.cursors_are (state_served _ c.args.session.now.store w serves) needs)
+    ap (λ h. (g.H.Host.view h).calls) (no_file_call _ _ (names_served _ c.args.session.now.store w serves) (state_served _ c.args.session.now.store w serves) needs)
 
 pub returns-in_err-emit_reply-clause-no_file_call : goal.returns-in_err-emit_reply-clause-no_file_call
 returns-in_err-emit_reply-clause-no_file_call g c w serves needs =
     let no_file_call = rw c.piece.ensures at c.step.ensures.no_file_call in
-    c.emit_reply.ensures.causes.calls ∙ ap (λ h. (g.H.Host.view h).calls) (no_file_call _ _ serves.cursors_are (state_served _ c.args.session.now.store w serves) needs)
+    c.emit_reply.ensures.causes.calls ∙ ap (λ h. (g.H.Host.view h).calls) (no_file_call _ _ (names_served _ c.args.session.now.store w serves) (state_served _ c.args.session.now.store w serves) needs)
 
 pub returns-clause-no_file_call : goal.returns-clause-no_file_call
 returns-clause-no_file_call g c w serves needs =
     let no_file_call = rw c.piece.ensures at c.step.ensures.no_file_call in
-    c.emit_reply.ensures.causes.calls ∙ ap (λ h. (g.H.Host.view h).calls) (no_file_call _ _ serves.cursors_are (state_served _ c.args.session.now.store w serves) needs)
+    c.emit_reply.ensures.causes.calls ∙ ap (λ h. (g.H.Host.view h).calls) (no_file_call _ _ (names_served _ c.args.session.now.store w serves) (state_served _ c.args.session.now.store w serves) needs)

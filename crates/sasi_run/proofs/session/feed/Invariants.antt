@@ -1,7 +1,6 @@
 use Rattle.std.proofs.Common.{◌≡◌, map, take}
 use Rattle.sasi_host.specs.View.{FailsOnlyAsTold}
-use Rattle.sasi_layout.specs.Classes.{KnowsClasses}
-use Rattle.sasi_store.specs.StoreView.{store_memory}
+use Rattle.sasi_store.specs.StoreView.{KnowsStore}
 use Rattle.sasi_run.specs.Crashing.{FeedsCrashSafe}
 use Rattle.sasi_run.specs.Session.{NoneFailed}
 use Rattle.sasi_run.proofs.session.feed.Given as goal
@@ -12,7 +11,7 @@ invariant-loop-byte g l = record {
       (g.H.Host.view l.fn.host) (g.H.Host.view l.host) (take l.byte-index l.bytes);
   none : NoneFailed (g.H.Host.view l.fn.host) (g.H.Host.view l.host);
   told : FailsOnlyAsTold (g.H.Host.view l.fn.host) (g.H.Host.view l.host);
-  known : KnowsClasses (map (λ b. (goal.Analyzer-dyn g (b.vtable, b.value)).kind b.value) l.kit.objects.items) (store_memory l.session.store);
+  known : KnowsStore (map (λ b. (goal.Analyzer-dyn g (b.vtable, b.value)).kind b.value) l.kit.objects.items) l.session.store;
   kinds : map (λ b. (goal.Analyzer-dyn g (b.vtable, b.value)).kind b.value) l.kit.objects.items
       ≡ map (λ b. (goal.Analyzer-dyn g (b.vtable, b.value)).kind b.value) l.fn.kit.objects.items;
 }

@@ -1,4 +1,5 @@
 use Rattle.std.proofs.Common.{◌≡◌, ◌+◌, ◌++◌, List, [], ◌∷◌, ℕ, Option, true, map, ap, sym, subst, ◌∙◌, arith}
+use Rattle.std.proofs.lemmas.List.{append-nil}
 use Rattle.sasi_cells.specs.declared.picked.Picked.{Picked}
 use Rattle.sasi_host.proofs.ChangeLaws.{stays}
 use Rattle.sasi_host.proofs.ContentLaws.{told_files}
@@ -11,6 +12,7 @@ use Rattle.sasi_recheck.specs.Rows.{KnowsWhere, counted_on}
 use Rattle.sasi_scan.proofs.Costs.{damage_err, ok_as}
 use Rattle.sasi_sources.specs.KeyCandidates.{HasKeyType}
 use Rattle.sasi_views.specs.declared.part.Part.{Part}
+use Rattle.sasi_views.specs.Books.{Book}
 use Rattle.sasi_views.specs.Kept.{IsCounted}
 use Rattle.sasi_views.proofs.BookLaws.{give_counted, kept_out, kept_view, take_counted}
 use Rattle.sasi_views.specs.Parts.{ListsOnce}
@@ -20,7 +22,6 @@ use Rattle.sasi_plan.specs.Answers.{CountsTo, ReadsLeft, RowsLeft}
 use Rattle.sasi_plan.specs.Reading.{IsReadIn, PendingReady, PendingShows, plan_reads}
 use Rattle.sasi_plan.specs.contracts.plan_candidates.PlanCandidatesCandidates.TheImpl as source
 use Rattle.sasi_fetch.specs.Printing.{picked_lines}
-use Rattle.sasi_store.specs.StoreView.{HasNoneOut}
 use Rattle.sasi_store.proofs.Planned.{plan_prints, plan_ready}
 use Rattle.sasi_store.proofs.SelectWorlds.{checks_are, if_ok, plan_bounded, reads_within, rows_are, rows_asked, world, world_read}
 use Rattle.sasi_store.proofs.ViewDamage.{view_shows}
@@ -38,7 +39,7 @@ pub returns-in_err-current-clause-changes : goal.returns-in_err-current-clause-c
 returns-in_err-current-clause-changes g c = stays (g.H.Host.view c.args.host.now)
 
 pub take-requires-clause-room : goal.take-requires-clause-room
-take-requires-clause-room g c = omega (arith, c.requires.none_out.out)
+take-requires-clause-room g c = omega (arith, c.requires.few.1.out, c.requires.few.2)
 
 pub take-requires-clause-once : goal.take-requires-clause-once
 take-requires-clause-once g c =
@@ -51,7 +52,7 @@ pub returns-in_err-view-clause-changes : goal.returns-in_err-view-clause-changes
 returns-in_err-view-clause-changes g c = stays (g.H.Host.view c.args.host.now)
 
 pub returns-in_err-view-clause-back : goal.returns-in_err-view-clause-back
-returns-in_err-view-clause-back g c = subst HasNoneOut (sym c.in_err-view.ensures.err) c.requires.none_out
+returns-in_err-view-clause-back g c out counted = subst (λ (book : Book). IsCounted book out) (sym c.in_err-view.ensures.err) counted
 
 -- ---- a reader of it
 
@@ -85,20 +86,26 @@ print_rows-printed-requires-clause-known g c = subst (λ (cs : List Condition). 
 
 -- ---- the view is given back
 
--- it is the view that is out
-view_out : (g : Over) (c : After-end g) → IsCounted c.take.new.self (c.end.result ∷ [])
-view_out g c =
-    subst (λ (ps : List Part). IsCounted c.take.new.self (ps ∷ [])) (sym (c.end.ensures ∙ c.print_rows-printed.ensures.view ∙ c.new-reader.ensures.view ∙ c.in_ok-view.ensures.parts))
-    (take_counted c.args.views.now c.take.new.self [] c.in_ok-current.current c.in_ok-view.ensures.taken c.requires.none_out)
+-- it is the last of the views that are out
+view_out : (g : Over) (c : After-end g) (out : List (List Part)) → IsCounted c.args.views.now out → IsCounted c.take.new.self (out ++ c.end.result ∷ [])
+view_out g c out counted =
+    subst (λ (ps : List Part). IsCounted c.take.new.self (out ++ ps ∷ [])) (sym (c.end.ensures ∙ c.print_rows-printed.ensures.view ∙ c.new-reader.ensures.view ∙ c.in_ok-view.ensures.parts))
+    (take_counted c.args.views.now c.take.new.self out c.in_ok-current.current c.in_ok-view.ensures.taken counted)
 
 pub give-requires-clause-counted : goal.give-requires-clause-counted
-give-requires-clause-counted g c = kept_view c.take.new.self [] [] c.end.result (view_out g (goal.at.give-requires-clause-counted g c).After-end)
+give-requires-clause-counted g c =
+    let few = c.requires.few in
+    kept_view c.take.new.self few.0 [] c.end.result (view_out g (goal.at.give-requires-clause-counted g c).After-end few.0 few.1)
 
 pub give-requires-clause-out : goal.give-requires-clause-out
-give-requires-clause-out g c = kept_out c.take.new.self [] [] c.end.result (view_out g (goal.at.give-requires-clause-out g c).After-end)
+give-requires-clause-out g c =
+    let few = c.requires.few in
+    kept_out c.take.new.self few.0 [] c.end.result (view_out g (goal.at.give-requires-clause-out g c).After-end few.0 few.1)
 
 pub returns-clause-back : goal.returns-clause-back
-returns-clause-back g c = give_counted c.take.new.self c.give.new.self [] [] c.end.result c.give.ensures (view_out g (goal.at.returns-clause-back g c).After-end)
+returns-clause-back g c out counted =
+    subst (IsCounted c.give.new.self) (append-nil out)
+    (give_counted c.take.new.self c.give.new.self out [] c.end.result c.give.ensures (view_out g (goal.at.returns-clause-back g c).After-end out counted))
 
 -- ---- what was printed
 

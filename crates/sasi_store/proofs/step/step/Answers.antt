@@ -1,10 +1,10 @@
-use Rattle.std.proofs.Common.{◌++◌, List, ℕ, ap, map, refl, subst, sym, ◌∙◌}
+use Rattle.std.proofs.Common.{◌++◌, List, ℕ, ap, inl, map, refl, subst, sym, ◌∙◌}
 use Rattle.std.proofs.lemmas.Result.{err_from_is_err_and}
 use Rattle.sasi_cells.specs.Mutations.{state_with_mutation}
 use Rattle.sasi_layout.proofs.ClassLaws.{known_created, known_defined}
 use Rattle.sasi_layout.specs.Classes.{HasNeeded, KnowsClasses, LacksNeeded}
 use Rattle.sasi_layout.specs.Layout.{state_of}
-use Rattle.sasi_machine.specs.Prepares.{answer_rows}
+use Rattle.sasi_machine.specs.Prepares.{Prepares, answer_rows}
 use Rattle.sasi_machine.proofs.SessionTurns.{created_leaves, defined_leaves, flushed_leaves, selected_turns, written_leaves}
 use Rattle.sasi_model.specs.Asked as ask
 use Rattle.sasi_model.specs.Asked.{class_needed}
@@ -14,19 +14,27 @@ use Rattle.sasi_schema.specs.Defined.{definition}
 use Rattle.sasi_schema.specs.SchemaViews.{index_of_new}
 use Rattle.sasi_types.specs.declared.class.Class.{Class}
 use Rattle.sasi_tables.specs.TablesView.{memory_of}
+use Rattle.sasi_store.specs.Cursors.{views_out}
+use Rattle.sasi_store.specs.StoreView.{KnowsAll}
 use Rattle.sasi_store.specs.Worlds.{rows_tail, selection_checks}
 use Rattle.sasi_store.proofs.Known.{created_state, defined_state, known_after, known_as, written_state}
-use Rattle.sasi_store.proofs.Prepared.{HasPrepared, blank, blank_definitions, creatable, definable, has_table_for, new_unindexed, selectable, writable}
-use Rattle.sasi_store.proofs.NoFile.{UsesHost, needs_host}
-use Rattle.sasi_store.proofs.StepCursors.{step_closed, step_fetched, step_opened}
+use Rattle.sasi_store.proofs.Prepared.{HasPrepared, blank, blank_definitions, creatable, definable, has_table_for, new_unindexed, openable, selectable, writable}
+use Rattle.sasi_store.proofs.NoFile.{UsesHost, fetch_free, needs_host}
 use Rattle.sasi_store.proofs.StepFiles.{step_listed}
-use Rattle.sasi_store.proofs.Stepping.{select_answered, select_failed, select_turns, select_within, state_is, step_answered, step_failed, step_full, step_made, step_missing, step_traced, step_unprepared}
+use Rattle.sasi_store.proofs.KeptCursors.{few_out}
+use Rattle.sasi_store.proofs.KeptTypes.{types_left, types_with_index, types_with_table}
+use Rattle.sasi_store.proofs.StepChanges.{step_failed, step_made}
+use Rattle.sasi_store.proofs.StepClosed.{close_parts, step_close}
+use Rattle.sasi_store.proofs.StepFetched.{parts_left, reads_fetch, step_fetch}
+use Rattle.sasi_store.proofs.StepOpened.{open_parts, step_open}
+use Rattle.sasi_store.proofs.StepSelects.{select_answered, select_turns, select_within}
+use Rattle.sasi_store.proofs.Stepping.{read_failed, state_is, step_answered, step_full, step_missing, step_traced, step_unprepared}
 use Rattle.sasi_store.proofs.step.step.Goals as goal
 
 pub returns-in_err-outcome-clause-steps : goal.returns-in_err-outcome-clause-steps
 returns-in_err-outcome-clause-steps g c =
     let p = err_from_is_err_and c.from_residual.result c.from_residual.ensures.1 in
-    rw (p.1, p.2) (step_unprepared (map (λ b. (goal.Analyzer-dyn g (b.vtable, b.value)).kind b.value) c.args.kit.now.objects.items) (g.H.Host.view c.args.host.now) (g.met.H.Host.sound c.args.host.now) c.args.parts.now (piece_of c.args.end c.args.piece.now) c.prepare.new.reply c.in_err-outcome.field-0.0 c.requires.classes c.in_err-outcome.ensures.missing)
+    rw (p.1, p.2) (step_unprepared (map (λ b. (goal.Analyzer-dyn g (b.vtable, b.value)).kind b.value) c.args.kit.now.objects.items) (g.H.Host.view c.args.host.now) (g.met.H.Host.sound c.args.host.now) c.args.parts.now (piece_of c.args.end c.args.piece.now) c.prepare.new.reply c.in_err-outcome.field-0.0 c.requires.classes.tables c.in_err-outcome.ensures.missing)
 
 pub returns-in-Answered-clause-steps : goal.returns-in-Answered-clause-steps
 returns-in-Answered-clause-steps g c =
@@ -36,7 +44,7 @@ returns-in-Answered-clause-steps g c =
     let e = c.in_ok-outcome.ensures in
     let all : HasPrepared parts piece c.prepare.new.reply c.in_ok-outcome.field-0 = record { asked = e.asked; prepares = e.prepares; timeless = e.timeless; selects = e.selects } in
     let has = subst (HasPrepared parts piece c.prepare.new.reply) c.in-Answered.is all in
-    step_answered (map (λ b. (goal.Analyzer-dyn g (b.vtable, b.value)).kind b.value) c.args.kit.now.objects.items) v (g.met.H.Host.sound c.args.host.now) parts piece c.prepare.new.reply _ c.requires.ready has.asked has.prepares
+    step_answered (map (λ b. (goal.Analyzer-dyn g (b.vtable, b.value)).kind b.value) c.args.kit.now.objects.items) v (g.met.H.Host.sound c.args.host.now) parts piece c.prepare.new.reply _ c.requires.ready has.asked c.requires.cursors has.prepares
 
 pub create-requires-clause-creatable : goal.create-requires-clause-creatable
 create-requires-clause-creatable g c =
@@ -49,7 +57,7 @@ create-requires-clause-creatable g c =
     creatable v parts c.requires.ready c.in-Create.table piece c.prepare.new.reply (has.timeless tt (blank v parts c.requires.ready) (blank_definitions v parts c.requires.ready))
 
 pub write-requires-clause-classes : goal.write-requires-clause-classes
-write-requires-clause-classes g c = subst (λ (kinds : List Class). KnowsClasses kinds (memory_of c.args.parts.now)) (sym c.prepare.ensures.kinds) c.requires.classes
+write-requires-clause-classes g c = subst (λ (kinds : List Class). KnowsClasses kinds (memory_of c.args.parts.now)) (sym c.prepare.ensures.kinds) c.requires.classes.tables
 
 pub write-requires-clause-writable : goal.write-requires-clause-writable
 write-requires-clause-writable g c =
@@ -62,7 +70,7 @@ write-requires-clause-writable g c =
     writable v parts c.requires.ready c.in-Write.mutation piece c.prepare.new.reply c.note_number-in-Write.ensures has.asked has.prepares
 
 pub flush_unless_empty-requires-clause-classes : goal.flush_unless_empty-requires-clause-classes
-flush_unless_empty-requires-clause-classes g c = subst (λ (kinds : List Class). KnowsClasses kinds (memory_of c.args.parts.now)) (sym c.prepare.ensures.kinds) c.requires.classes
+flush_unless_empty-requires-clause-classes g c = subst (λ (kinds : List Class). KnowsClasses kinds (memory_of c.args.parts.now)) (sym c.prepare.ensures.kinds) c.requires.classes.tables
 
 pub flush_unless_empty-requires-clause-there : goal.flush_unless_empty-requires-clause-there
 flush_unless_empty-requires-clause-there g c =
@@ -75,7 +83,7 @@ flush_unless_empty-requires-clause-there g c =
     has_table_for v parts c.requires.ready c.in-Flush.table (has.timeless tt (blank v parts c.requires.ready) (blank_definitions v parts c.requires.ready)).2
 
 pub select-requires-clause-classes : goal.select-requires-clause-classes
-select-requires-clause-classes g c = subst (λ (kinds : List Class). KnowsClasses kinds (memory_of c.args.parts.now)) (sym c.prepare.ensures.kinds) c.requires.classes
+select-requires-clause-classes g c = subst (λ (kinds : List Class). KnowsClasses kinds (memory_of c.args.parts.now)) (sym c.prepare.ensures.kinds) c.requires.classes.tables
 
 pub select-requires-clause-there : goal.select-requires-clause-there
 select-requires-clause-there g c =
@@ -107,7 +115,9 @@ returns-in_ok-create-in-Create-clause-steps g c =
     let all : HasPrepared parts piece c.prepare.new.reply c.in_ok-outcome.field-0 = record { asked = e.asked; prepares = e.prepares; timeless = e.timeless; selects = e.selects } in
     let has = subst (HasPrepared parts piece c.prepare.new.reply) c.in-Create.is all in
     step_made (map (λ b. (goal.Analyzer-dyn g (b.vtable, b.value)).kind b.value) c.args.kit.now.objects.items) v (g.H.Host.view c.create.new.host) parts c.create.new.parts piece c.prepare.new.reply (ask.Creates (definition c.in-Create.table)) has.asked (λ none. cc) _
-    (λ s. with_new_table s (definition c.in-Create.table)) c.in_ok-create-in-Create.ensures.makes (λ s of. (has.prepares s of).0)
+    (λ s. with_new_table s (definition c.in-Create.table)) c.in_ok-create-in-Create.ensures.makes
+    c.requires.cursors (types_with_table v (g.H.Host.view c.create.new.host) parts c.create.new.parts c.requires.ready c.in_ok-create-in-Create.ensures.makes.ready _ (definition c.in-Create.table) c.in_ok-create-in-Create.ensures.knows) (c.in_ok-create-in-Create.ensures.pinned c.args.session.now.views)
+    (λ s of. (has.prepares s of).0)
     (λ s of. known_as (memory_of c.create.new.parts) _ _ _ c.in_ok-create-in-Create.ensures.knows (created_state parts.schema.definitions parts.max_timestamp s (definition c.in-Create.table) of))
     (λ s of. created_leaves s piece c.in-Create.table (has.prepares s of).1)
     (λ known. known_after (map (λ b. (goal.Analyzer-dyn g (b.vtable, b.value)).kind b.value) c.args.kit.now.objects.items) (memory_of c.create.new.parts) _ _ c.in_ok-create-in-Create.ensures.knows (known_created (map (λ b. (goal.Analyzer-dyn g (b.vtable, b.value)).kind b.value) c.args.kit.now.objects.items) parts.schema.definitions (definition c.in-Create.table) (new_unindexed v parts c.requires.ready c.in-Create.table piece c.prepare.new.reply (has.timeless tt (blank v parts c.requires.ready) (blank_definitions v parts c.requires.ready))) known)) tt
@@ -132,7 +142,9 @@ returns-in_ok-write-in-Write-clause-steps g c =
     let all : HasPrepared parts piece c.prepare.new.reply c.in_ok-outcome.field-0 = record { asked = e.asked; prepares = e.prepares; timeless = e.timeless; selects = e.selects } in
     let has = subst (HasPrepared parts piece c.prepare.new.reply) c.in-Write.is all in
     step_made (map (λ b. (goal.Analyzer-dyn g (b.vtable, b.value)).kind b.value) c.args.kit.now.objects.items) v (g.H.Host.view c.write.new.host) parts c.write.new.parts piece c.prepare.new.reply (ask.Writes c.in-Write.mutation.table c.in-Write.mutation.key c.in-Write.mutation.change) has.asked (λ none. cc) _
-    (λ s. state_with_mutation s c.in-Write.mutation) c.in_ok-write-in-Write.ensures.makes (λ s of. (has.prepares s of).0)
+    (λ s. state_with_mutation s c.in-Write.mutation) c.in_ok-write-in-Write.ensures.makes
+    c.requires.cursors (types_left v (g.H.Host.view c.write.new.host) parts c.write.new.parts c.requires.ready c.in_ok-write-in-Write.ensures.makes.ready _ c.in_ok-write-in-Write.ensures.knows) c.in_ok-write-in-Write.ensures.pinned
+    (λ s of. (has.prepares s of).0)
     (λ s of. known_as (memory_of c.write.new.parts) _ _ _ c.in_ok-write-in-Write.ensures.knows (written_state parts.schema.definitions parts.max_timestamp s c.in-Write.mutation (has.prepares s of).2 of))
     (λ s of. written_leaves s piece c.in-Write.mutation (has.prepares s of).1)
     (λ known. known_after (map (λ b. (goal.Analyzer-dyn g (b.vtable, b.value)).kind b.value) c.args.kit.now.objects.items) (memory_of c.write.new.parts) _ _ c.in_ok-write-in-Write.ensures.knows known) tt
@@ -157,10 +169,15 @@ returns-in_ok-flush_unless_empty-in-Flush-clause-steps g c =
     let all : HasPrepared parts piece c.prepare.new.reply c.in_ok-outcome.field-0 = record { asked = e.asked; prepares = e.prepares; timeless = e.timeless; selects = e.selects } in
     let has = subst (HasPrepared parts piece c.prepare.new.reply) c.in-Flush.is all in
     step_made (map (λ b. (goal.Analyzer-dyn g (b.vtable, b.value)).kind b.value) c.args.kit.now.objects.items) v (g.H.Host.view c.flush_unless_empty.new.host) parts c.flush_unless_empty.new.parts piece c.prepare.new.reply (ask.Flushes c.in-Flush.table) has.asked (λ none. cc) _
-    (λ s. s) c.in_ok-flush_unless_empty-in-Flush.ensures.makes (λ s of. (has.prepares s of).0)
+    (λ s. s) c.in_ok-flush_unless_empty-in-Flush.ensures.makes
+    c.requires.cursors (types_left v (g.H.Host.view c.flush_unless_empty.new.host) parts c.flush_unless_empty.new.parts c.requires.ready c.in_ok-flush_unless_empty-in-Flush.ensures.makes.ready _ c.in_ok-flush_unless_empty-in-Flush.ensures.knows) c.in_ok-flush_unless_empty-in-Flush.ensures.pinned
+    (λ s of. (has.prepares s of).0)
     (λ s of. known_as (memory_of c.flush_unless_empty.new.parts) _ _ _ c.in_ok-flush_unless_empty-in-Flush.ensures.knows of)
     (λ s of. flushed_leaves s piece c.in-Flush.table (has.prepares s of).1)
     (λ known. known_after (map (λ b. (goal.Analyzer-dyn g (b.vtable, b.value)).kind b.value) c.args.kit.now.objects.items) (memory_of c.flush_unless_empty.new.parts) _ _ c.in_ok-flush_unless_empty-in-Flush.ensures.knows known) tt
+
+pub select-requires-clause-few : goal.select-requires-clause-few
+select-requires-clause-few g c = few_out (g.H.Host.view c.args.host.now).files c.args.parts.now c.args.session.now c.requires.cursors
 
 pub returns-in_err-select-in-Select-clause-steps : goal.returns-in_err-select-in-Select-clause-steps
 returns-in_err-select-in-Select-clause-steps g c =
@@ -173,7 +190,7 @@ returns-in_err-select-in-Select-clause-steps g c =
     let p = err_from_is_err_and c.from_residual-in_err-select-in-Select.result c.from_residual-in_err-select-in-Select.ensures.1 in
     let i = c.in_err-select-in-Select.ensures in
     let prepared = has.timeless tt (blank v parts c.requires.ready) (blank_definitions v parts c.requires.ready) in
-    rw (p.1, p.2) (select_failed (map (λ b. (goal.Analyzer-dyn g (b.vtable, b.value)).kind b.value) c.args.kit.now.objects.items) v (g.H.Host.view c.select.new.host) (g.met.H.Host.sound c.args.host.now) parts piece c.select.ensures.changes has.asked (has.selects tt) _ c.select.new.reply i.damaged i.undamaged i.unspent i.present
+    rw (p.1, p.2) (read_failed (map (λ b. (goal.Analyzer-dyn g (b.vtable, b.value)).kind b.value) c.args.kit.now.objects.items) v (g.H.Host.view c.select.new.host) (g.met.H.Host.sound c.args.host.now) parts piece c.select.new.reply _ c.select.ensures.changes (inl (has.selects tt)) i.damaged (λ w serves. i.undamaged w.layout serves.serves) i.unspent i.present
     (select_within v (g.H.Host.view c.select.new.host) parts (blank v parts c.requires.ready) piece c.in-Select.rows (blank_definitions v parts c.requires.ready) prepared.3 c.select.ensures.reads) i.causes)
 
 pub returns-in_ok-select-in-Select-clause-steps : goal.returns-in_ok-select-in-Select-clause-steps
@@ -186,7 +203,8 @@ returns-in_ok-select-in-Select-clause-steps g c =
     let has = subst (HasPrepared parts piece c.prepare.new.reply) c.in-Select.is all in
     let i = c.in_ok-select-in-Select.ensures in
     let prepared = has.timeless tt (blank v parts c.requires.ready) (blank_definitions v parts c.requires.ready) in
-    select_answered (map (λ b. (goal.Analyzer-dyn g (b.vtable, b.value)).kind b.value) c.args.kit.now.objects.items) v (g.H.Host.view c.select.new.host) (g.met.H.Host.sound c.args.host.now) parts piece c.select.ensures.changes has.asked (has.selects tt) _ c.select.new.reply c.select.ensures.trace c.requires.ready
+    select_answered (map (λ b. (goal.Analyzer-dyn g (b.vtable, b.value)).kind b.value) c.args.kit.now.objects.items) v (g.H.Host.view c.select.new.host) (g.met.H.Host.sound c.args.host.now) parts piece c.select.ensures.changes has.asked (has.selects tt) _ c.select.new.reply c.select.ensures.trace c.select.ensures.cursors
+    c.requires.cursors (c.select.ensures.back (views_out c.args.session.now.cursors) c.requires.cursors.counted) c.requires.ready
     (λ w serves.
     let all = has.prepares (state_of w.layout) (state_is v (memory_of parts) w.layout serves.serves) in
     select_turns w piece c.in-Select.rows c.args.session.now.trace c.select.new.reply all.0 all.3 serves.trace_is (i.ok w.layout serves.serves ∙ ap (λ (front : List ℕ). front ++ (answer_rows (state_of w.layout) c.in-Select.rows ++ rows_tail c.args.session.now.trace (selection_checks w.layout c.in-Select.rows))) prepared.1))
@@ -236,7 +254,9 @@ returns-in_ok-define-in-Define-clause-steps g c =
     let all : HasPrepared parts piece c.prepare.new.reply c.in_ok-outcome.field-0 = record { asked = e.asked; prepares = e.prepares; timeless = e.timeless; selects = e.selects } in
     let has = subst (HasPrepared parts piece c.prepare.new.reply) c.in-Define.is all in
     step_made (map (λ b. (goal.Analyzer-dyn g (b.vtable, b.value)).kind b.value) c.args.kit.now.objects.items) v (g.H.Host.view c.define.new.host) parts c.define.new.parts piece c.prepare.new.reply (ask.Defines c.in-Define.index.table (index_of_new c.in-Define.index)) has.asked (λ none. cc) _
-    (λ s. state_with_index s c.in-Define.index.table (index_of_new c.in-Define.index)) c.in_ok-define-in-Define.ensures.makes (λ s of. (has.prepares s of).0)
+    (λ s. state_with_index s c.in-Define.index.table (index_of_new c.in-Define.index)) c.in_ok-define-in-Define.ensures.makes
+    c.requires.cursors (types_with_index v (g.H.Host.view c.define.new.host) parts c.define.new.parts c.requires.ready c.in_ok-define-in-Define.ensures.makes.ready _ c.in-Define.index.table (index_of_new c.in-Define.index) c.in_ok-define-in-Define.ensures.knows) (c.in_ok-define-in-Define.ensures.pinned c.args.session.now.views)
+    (λ s of. (has.prepares s of).0)
     (λ s of. known_as (memory_of c.define.new.parts) _ _ _ c.in_ok-define-in-Define.ensures.knows (defined_state parts.schema.definitions parts.max_timestamp s c.in-Define.index.table (index_of_new c.in-Define.index) of))
     (λ s of. defined_leaves s piece c.in-Define.index (has.prepares s of).1)
     (λ known. known_after (map (λ b. (goal.Analyzer-dyn g (b.vtable, b.value)).kind b.value) c.args.kit.now.objects.items) (memory_of c.define.new.parts) _ _ c.in_ok-define-in-Define.ensures.knows (known_defined (map (λ b. (goal.Analyzer-dyn g (b.vtable, b.value)).kind b.value) c.args.kit.now.objects.items) parts.schema.definitions c.in-Define.index.table (index_of_new c.in-Define.index) (subst (λ (kinds : List Class). HasNeeded kinds (class_needed (ask.Defines c.in-Define.index.table (index_of_new c.in-Define.index)))) c.prepare.ensures.kinds c.in_ok-check_class-in-Define.ensures.there) known))
@@ -309,7 +329,7 @@ returns-in-Trace-clause-steps g c =
     let e = c.in_ok-outcome.ensures in
     let all : HasPrepared parts piece c.prepare.new.reply c.in_ok-outcome.field-0 = record { asked = e.asked; prepares = e.prepares; timeless = e.timeless; selects = e.selects } in
     let has = subst (HasPrepared parts piece c.prepare.new.reply) c.in-Trace.is all in
-    step_traced (map (λ b. (goal.Analyzer-dyn g (b.vtable, b.value)).kind b.value) c.args.kit.now.objects.items) v (g.met.H.Host.sound c.args.host.now) parts piece c.prepare.new.reply c.in-Trace.on refl c.requires.ready has.asked has.prepares
+    step_traced (map (λ b. (goal.Analyzer-dyn g (b.vtable, b.value)).kind b.value) c.args.kit.now.objects.items) v (g.met.H.Host.sound c.args.host.now) parts piece c.prepare.new.reply c.in-Trace.on refl refl refl c.requires.ready has.asked c.requires.cursors has.prepares
 
 -- ---- SHOW FILES
 
@@ -325,17 +345,25 @@ returns-in_ok-show_files-in-Files-clause-steps g c =
     let e = c.in_ok-outcome.ensures in
     let all : HasPrepared parts piece c.prepare.new.reply c.in_ok-outcome.field-0 = record { asked = e.asked; prepares = e.prepares; timeless = e.timeless; selects = e.selects } in
     let has = subst (HasPrepared parts piece c.prepare.new.reply) c.in-Files.is all in
-    step_listed (map (λ b. (goal.Analyzer-dyn g (b.vtable, b.value)).kind b.value) c.args.kit.now.objects.items) (g.H.Host.view c.args.host.now) (g.met.H.Host.sound c.args.host.now) parts piece c.prepare.new.reply c.show_files.new.reply c.requires.ready has.asked has.prepares c.in_ok-show_files-in-Files.ensures
+    step_listed (map (λ b. (goal.Analyzer-dyn g (b.vtable, b.value)).kind b.value) c.args.kit.now.objects.items) (g.H.Host.view c.args.host.now) (g.met.H.Host.sound c.args.host.now) parts piece c.prepare.new.reply c.show_files.new.reply c.requires.ready has.asked c.requires.cursors has.prepares c.in_ok-show_files-in-Files.ensures
 
--- ---- statements on cursors
+-- ---- OPEN
 
-pub returns-in_err-reply_refusal-in-Open-clause-steps : goal.returns-in_err-reply_refusal-in-Open-clause-steps
-returns-in_err-reply_refusal-in-Open-clause-steps g c =
-    let p = err_from_is_err_and c.from_residual-in_err-reply_refusal-in-Open.result c.from_residual-in_err-reply_refusal-in-Open.ensures.1 in
-    rw (p.1, p.2) (step_full (map (λ b. (goal.Analyzer-dyn g (b.vtable, b.value)).kind b.value) c.args.kit.now.objects.items) (g.H.Host.view c.args.host.now) (g.met.H.Host.sound c.args.host.now) c.args.parts.now (piece_of c.args.end c.args.piece.now) c.reply_refusal.new.reply)
+pub open-requires-clause-classes : goal.open-requires-clause-classes
+open-requires-clause-classes g c = subst (λ (kinds : List Class). KnowsAll kinds c.args.parts.now c.args.session.now) (sym c.prepare.ensures.kinds) c.requires.classes
 
-pub returns-in_ok-reply_refusal-in-Open-clause-steps : goal.returns-in_ok-reply_refusal-in-Open-clause-steps
-returns-in_ok-reply_refusal-in-Open-clause-steps g c =
+pub open-requires-clause-there : goal.open-requires-clause-there
+open-requires-clause-there g c =
+    let v = g.H.Host.view c.args.host.now in
+    let parts = c.args.parts.now in
+    let piece = piece_of c.args.end c.args.piece.now in
+    let e = c.in_ok-outcome.ensures in
+    let all : HasPrepared parts piece c.prepare.new.reply c.in_ok-outcome.field-0 = record { asked = e.asked; prepares = e.prepares; timeless = e.timeless; selects = e.selects } in
+    let has = subst (HasPrepared parts piece c.prepare.new.reply) c.in-Open.is all in
+    openable v parts c.requires.ready c.in-Open.asked piece (has.timeless tt (blank v parts c.requires.ready) (blank_definitions v parts c.requires.ready)).2
+
+pub returns-in-Open-clause-steps : goal.returns-in-Open-clause-steps
+returns-in-Open-clause-steps g c =
     let v = g.H.Host.view c.args.host.now in
     let parts = c.args.parts.now in
     let piece = piece_of c.args.end c.args.piece.now in
@@ -343,16 +371,21 @@ returns-in_ok-reply_refusal-in-Open-clause-steps g c =
     let all : HasPrepared parts piece c.prepare.new.reply c.in_ok-outcome.field-0 = record { asked = e.asked; prepares = e.prepares; timeless = e.timeless; selects = e.selects } in
     let has = subst (HasPrepared parts piece c.prepare.new.reply) c.in-Open.is all in
     let prepared = has.timeless tt (blank v parts c.requires.ready) (blank_definitions v parts c.requires.ready) in
-    step_opened (map (λ b. (goal.Analyzer-dyn g (b.vtable, b.value)).kind b.value) c.args.kit.now.objects.items) v (g.met.H.Host.sound c.args.host.now) parts piece c.prepare.new.reply c.reply_refusal.new.reply _ c.requires.ready has.asked prepared.1
-    c.in-Open.asked _ c.open_refusal.ensures has.prepares c.in_ok-reply_refusal-in-Open.ensures.reply c.in_ok-reply_refusal-in-Open.ensures.outcome
+    step_open c.args.session.now c.open.new.session (map (λ b. (goal.Analyzer-dyn g (b.vtable, b.value)).kind b.value) c.args.kit.now.objects.items) v (g.met.H.Host.sound c.args.host.now) parts c.open.new.parts piece c.in-Open.asked c.prepare.new.reply c.open.new.reply
+    c.open.result (map (λ b. (goal.Analyzer-dyn g (b.vtable, b.value)).kind b.value) c.prepare.new.kit.objects.items) c.prepare.ensures.kinds c.requires.ready has.asked c.requires.cursors prepared.1 has.prepares c.open.ensures.refused c.open.ensures.taken c.open.ensures.memory
 
-pub returns-in_err-reply_refusal-in-Fetch-clause-steps : goal.returns-in_err-reply_refusal-in-Fetch-clause-steps
-returns-in_err-reply_refusal-in-Fetch-clause-steps g c =
-    let p = err_from_is_err_and c.from_residual-in_err-reply_refusal-in-Fetch.result c.from_residual-in_err-reply_refusal-in-Fetch.ensures.1 in
-    rw (p.1, p.2) (step_full (map (λ b. (goal.Analyzer-dyn g (b.vtable, b.value)).kind b.value) c.args.kit.now.objects.items) (g.H.Host.view c.args.host.now) (g.met.H.Host.sound c.args.host.now) c.args.parts.now (piece_of c.args.end c.args.piece.now) c.reply_refusal-in-Fetch.new.reply)
+pub returns-in-Open-clause-parts : goal.returns-in-Open-clause-parts
+returns-in-Open-clause-parts g c =
+    open_parts c.args.session.now c.open.new.session (map (λ b. (goal.Analyzer-dyn g (b.vtable, b.value)).kind b.value) c.prepare.new.kit.objects.items) (g.H.Host.view c.args.host.now) (g.met.H.Host.sound c.args.host.now) c.args.parts.now c.open.new.parts (piece_of c.args.end c.args.piece.now) c.in-Open.asked c.prepare.new.reply c.open.new.reply
+    c.open.result c.requires.parts c.open.ensures.refused c.open.ensures.taken
 
-pub returns-in_ok-reply_refusal-in-Fetch-clause-steps : goal.returns-in_ok-reply_refusal-in-Fetch-clause-steps
-returns-in_ok-reply_refusal-in-Fetch-clause-steps g c =
+-- ---- FETCH
+
+pub fetch-requires-clause-classes : goal.fetch-requires-clause-classes
+fetch-requires-clause-classes g c = subst (λ (kinds : List Class). KnowsAll kinds c.args.parts.now c.args.session.now) (sym c.prepare.ensures.kinds) c.requires.classes
+
+pub returns-in-Fetch-clause-steps : goal.returns-in-Fetch-clause-steps
+returns-in-Fetch-clause-steps g c =
     let v = g.H.Host.view c.args.host.now in
     let parts = c.args.parts.now in
     let piece = piece_of c.args.end c.args.piece.now in
@@ -360,16 +393,28 @@ returns-in_ok-reply_refusal-in-Fetch-clause-steps g c =
     let all : HasPrepared parts piece c.prepare.new.reply c.in_ok-outcome.field-0 = record { asked = e.asked; prepares = e.prepares; timeless = e.timeless; selects = e.selects } in
     let has = subst (HasPrepared parts piece c.prepare.new.reply) c.in-Fetch.is all in
     let prepared = has.timeless tt (blank v parts c.requires.ready) (blank_definitions v parts c.requires.ready) in
-    step_fetched (map (λ b. (goal.Analyzer-dyn g (b.vtable, b.value)).kind b.value) c.args.kit.now.objects.items) v (g.met.H.Host.sound c.args.host.now) parts piece c.prepare.new.reply c.reply_refusal-in-Fetch.new.reply _ c.requires.ready has.asked prepared.1
-    c.in-Fetch.asked has.prepares c.in_ok-reply_refusal-in-Fetch.ensures.reply c.in_ok-reply_refusal-in-Fetch.ensures.outcome
+    let i = c.fetch.ensures in
+    step_fetch (map (λ b. (goal.Analyzer-dyn g (b.vtable, b.value)).kind b.value) c.args.kit.now.objects.items) v (g.H.Host.view c.fetch.new.host) (g.met.H.Host.sound c.args.host.now) parts piece c.in-Fetch.asked c.prepare.new.reply c.fetch.new.reply i.changes has.asked
+    (reads_fetch (blank v parts c.requires.ready) piece c.in-Fetch.asked prepared.2) c.fetch.result (map (λ b. (goal.Analyzer-dyn g (b.vtable, b.value)).kind b.value) c.prepare.new.kit.objects.items) c.prepare.ensures.kinds c.requires.ready c.requires.cursors prepared.1 has.prepares i.refused i.taken
+    (λ P free holds. subst (λ h. P (g.H.Host.view h)) (sym (i.no_call free)) holds) i.damaged i.undamaged i.unspent i.present i.causes
 
-pub returns-in_err-reply_refusal-in-Close-clause-steps : goal.returns-in_err-reply_refusal-in-Close-clause-steps
-returns-in_err-reply_refusal-in-Close-clause-steps g c =
-    let p = err_from_is_err_and c.from_residual-in_err-reply_refusal-in-Close.result c.from_residual-in_err-reply_refusal-in-Close.ensures.1 in
-    rw (p.1, p.2) (step_full (map (λ b. (goal.Analyzer-dyn g (b.vtable, b.value)).kind b.value) c.args.kit.now.objects.items) (g.H.Host.view c.args.host.now) (g.met.H.Host.sound c.args.host.now) c.args.parts.now (piece_of c.args.end c.args.piece.now) c.reply_refusal-in-Close.new.reply)
+pub returns-in-Fetch-clause-parts : goal.returns-in-Fetch-clause-parts
+returns-in-Fetch-clause-parts g c = parts_left c.args.parts.now c.fetch.result c.requires.parts
 
-pub returns-in_ok-reply_refusal-in-Close-clause-steps : goal.returns-in_ok-reply_refusal-in-Close-clause-steps
-returns-in_ok-reply_refusal-in-Close-clause-steps g c =
+pub returns-in-Fetch-clause-no_file_call : goal.returns-in-Fetch-clause-no_file_call
+returns-in-Fetch-clause-no_file_call g c x s named of needs =
+    let piece = piece_of c.args.end c.args.piece.now in
+    c.fetch.ensures.no_call (fetch_free x s piece c.args.session.now.cursors c.prepare.new.reply c.in-Fetch.asked named (subst (Prepares s piece c.prepare.new.reply) c.in-Fetch.is (c.in_ok-outcome.ensures.prepares s of)) needs)
+
+-- ---- CLOSE
+
+pub returns-in_err-close-in-Close-clause-steps : goal.returns-in_err-close-in-Close-clause-steps
+returns-in_err-close-in-Close-clause-steps g c =
+    let p = err_from_is_err_and c.from_residual-in_err-close-in-Close.result c.from_residual-in_err-close-in-Close.ensures.1 in
+    rw (p.1, p.2) (step_full (map (λ b. (goal.Analyzer-dyn g (b.vtable, b.value)).kind b.value) c.args.kit.now.objects.items) (g.H.Host.view c.args.host.now) (g.met.H.Host.sound c.args.host.now) c.args.parts.now (piece_of c.args.end c.args.piece.now) c.close.new.reply)
+
+pub returns-in_ok-close-in-Close-clause-steps : goal.returns-in_ok-close-in-Close-clause-steps
+returns-in_ok-close-in-Close-clause-steps g c =
     let v = g.H.Host.view c.args.host.now in
     let parts = c.args.parts.now in
     let piece = piece_of c.args.end c.args.piece.now in
@@ -377,5 +422,10 @@ returns-in_ok-reply_refusal-in-Close-clause-steps g c =
     let all : HasPrepared parts piece c.prepare.new.reply c.in_ok-outcome.field-0 = record { asked = e.asked; prepares = e.prepares; timeless = e.timeless; selects = e.selects } in
     let has = subst (HasPrepared parts piece c.prepare.new.reply) c.in-Close.is all in
     let prepared = has.timeless tt (blank v parts c.requires.ready) (blank_definitions v parts c.requires.ready) in
-    step_closed (map (λ b. (goal.Analyzer-dyn g (b.vtable, b.value)).kind b.value) c.args.kit.now.objects.items) v (g.met.H.Host.sound c.args.host.now) parts piece c.prepare.new.reply c.reply_refusal-in-Close.new.reply _ c.requires.ready has.asked prepared.1
-    c.in-Close.cursor has.prepares c.in_ok-reply_refusal-in-Close.ensures.reply c.in_ok-reply_refusal-in-Close.ensures.outcome
+    let i = c.in_ok-close-in-Close.ensures in
+    step_close (map (λ b. (goal.Analyzer-dyn g (b.vtable, b.value)).kind b.value) c.args.kit.now.objects.items) v (g.met.H.Host.sound c.args.host.now) parts c.close.new.parts piece c.in-Close.cursor c.prepare.new.reply c.close.new.reply _ i.refused i.taken c.requires.ready has.asked c.requires.cursors prepared.1 has.prepares
+
+pub returns-in_ok-close-in-Close-clause-parts : goal.returns-in_ok-close-in-Close-clause-parts
+returns-in_ok-close-in-Close-clause-parts g c =
+    let i = c.in_ok-close-in-Close.ensures in
+    close_parts {was = c.args.session.now} {now = c.close.new.session} (map (λ b. (goal.Analyzer-dyn g (b.vtable, b.value)).kind b.value) c.args.kit.now.objects.items) (g.H.Host.view c.args.host.now) (g.met.H.Host.sound c.args.host.now) c.args.parts.now c.close.new.parts (piece_of c.args.end c.args.piece.now) c.in-Close.cursor c.prepare.new.reply c.close.new.reply _ i.refused i.taken c.requires.parts

@@ -28,6 +28,7 @@ use Rattle.sasi_tables.proofs.Creating.{create_made, create_stopped, edit_of, ed
 use Rattle.sasi_tables.proofs.HeldChanges.{added_held, added_mapped}
 use Rattle.sasi_tables.proofs.TablesInMemory.{all_push, as_many, rises_push}
 use Rattle.sasi_tables.proofs.MoveCauses.{call_failed, call_made, call_plain, made_then_full, makes_nothing}
+use Rattle.sasi_tables.proofs.PinnedMaps.{pinned_added}
 use Rattle.sasi_tables.proofs.creation.create.Goals as goal
 
 pub returns-in_err-edits-clause-makes : goal.returns-in_err-edits-clause-makes
@@ -130,3 +131,9 @@ returns-clause-parts g c =
 
 pub returns-clause-knows : goal.returns-clause-knows
 returns-clause-knows g c = record { definitions_are = ap (λ (v : SchemaView). v.definitions) c.in_ok-restore_table.ensures.ok; timestamp_is = refl }
+
+pub returns-clause-pinned : goal.returns-clause-pinned
+returns-clause-pinned g c views =
+    let p = c.args.parts.now in
+    let row : TableMap = record { number = c.args.table.number; memtable = c.new.result; first = None } in
+    pinned_added views p _ row [] c.in_ok-add_table.ensures.ok (omega (arith, c.in_ok-add_table.ensures.last))

@@ -25,6 +25,7 @@ use Rattle.sasi_tables.proofs.Defining.{define_made, define_spent, define_stoppe
 use Rattle.sasi_tables.proofs.DefinedParts.{can_index, index_held, index_inside, index_mapped, index_regular, rising}
 use Rattle.sasi_tables.proofs.TablesInMemory.{index_got}
 use Rattle.sasi_tables.proofs.MoveCauses.{call_failed, call_made, call_plain, made_then_full, makes_nothing}
+use Rattle.sasi_tables.proofs.PinnedMaps.{pinned_indexed}
 use Rattle.sasi_tables.proofs.definition.define.Goals as goal
 
 pub returns-in_err-number-clause-makes : goal.returns-in_err-number-clause-makes
@@ -202,3 +203,13 @@ returns-clause-knows g c =
     let edits : c.in_ok-edits.edits ≡ edits_for (suc c.args.parts.now.numbers.index) c.args.index = c.in_ok-edits.ensures ∙ ap (λ (d : IndexDef). index_edit d ∷ []) def_is in
     let fits : suc c.args.parts.now.numbers.index < 2 ^ 32 = subst (λ (n : ℕ). n < 2 ^ 32) next.next_is next.fits in
     record { definitions_are = ap (λ (v : SchemaView). v.definitions) (c.in_ok-restore_index.ensures.ok ∙ ap (λ (d : IndexDef). with_index_def d c.args.parts.now.schema) def_is); timestamp_is = refl }
+
+pub returns-clause-pinned : goal.returns-clause-pinned
+returns-clause-pinned g c views =
+    let q = c.args.parts.now in
+    let v = g.H.Host.view c.args.host.now in
+    let number = suc q.numbers.index in
+    let def_is : c.numbered-def.result ≡ numbered_def number c.args.index = c.numbered-def.ensures ∙ ap (λ (n : ℕ). numbered_def n c.args.index) c.in_ok-number.ensures.next.next_is in
+    let row = c.index-table.result.now in
+    let all = subst (λ (d : IndexDef). IsAddedToAll d (numbers_of row) q.maps c.add_to_all.new.maps) def_is c.in_ok-add_to_all.ensures.ok in
+    pinned_indexed views q _ (numbered_def number c.args.index) (numbers_of row) all refl refl

@@ -15,6 +15,8 @@ use Rattle.sasi_tables.proofs.HeldChanges.{forgotten_stay, no_others, replaced_h
 use Rattle.sasi_tables.proofs.HeldMaps.{held_stay, held_there, mapped_stay, one_there}
 use Rattle.sasi_tables.proofs.IndexedTables.{empty_can}
 use Rattle.sasi_tables.proofs.TablesInMemory.{inside_there}
+use Rattle.sasi_tables.proofs.PinnedMaps.{pinned_again, pinned_forgotten, pinned_replaced}
+use Rattle.sasi_tables.specs.declared.parts.Parts.{Parts}
 use Rattle.sasi_tables.proofs.flush_table.clear.Goals as goal
 
 pub bounds-as_slice-index : goal.bounds-as_slice-index
@@ -78,3 +80,13 @@ returns-clause-others g c before =
     let numbers_are : c.as_slice-numbers.result.now ≡ x.frozen = c.as_slice-numbers.ensures ∙ c.in_ok-frozen.ensures.frozen x own.1 in
     let gone = subst (λ ns. AreForgotten c.args.views.now ns after c.forget.new.maps) numbers_are c.forget.ensures in
     no_others p.maps p.last_map (wanted_of p) p.tables.items c.requires.mapped c.args.index x own.1 c.new-empty.result _ after new change c.args.views.now c.forget.new.maps gone before
+
+pub returns-clause-pinned : goal.returns-clause-pinned
+returns-clause-pinned g c =
+    let p = c.args.parts.now in
+    let own : (x : TableMaps) × (slice_get p.tables.items c.args.index ≡ Some x) = inside_there p.tables.items c.args.index c.requires.inside in
+    let x = own.0 in
+    let after : Parts = record p { tables = c.replace.new.tables; maps = c.replace.new.maps } in
+    let numbers_are : c.as_slice-numbers.result.now ≡ x.frozen = c.as_slice-numbers.ensures ∙ c.in_ok-frozen.ensures.frozen x own.1 in
+    let gone = subst (λ ns. AreForgotten c.args.views.now ns c.replace.new.maps c.forget.new.maps) numbers_are c.forget.ensures in
+    pinned_again c.args.views.now p after _ (pinned_replaced c.args.views.now p after c.args.index c.new-empty.result _ x own.1 (c.in_ok-frozen.ensures.ok x own.1) refl) (pinned_forgotten c.args.views.now after _ x.frozen gone refl refl)

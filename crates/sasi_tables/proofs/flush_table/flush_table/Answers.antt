@@ -25,6 +25,7 @@ use Rattle.sasi_tables.proofs.HeldChanges.{has_map}
 use Rattle.sasi_tables.proofs.FlushedMaps.{definitions_flushed, regular_flushed, wanted_flushed}
 use Rattle.sasi_tables.proofs.HeldMaps.{held_numbers, held_there}
 use Rattle.sasi_tables.proofs.TablesInMemory.{index_got}
+use Rattle.sasi_tables.proofs.PinnedMaps.{pinned_again, pinned_listed}
 use Rattle.sasi_tables.proofs.flush_table.flush_table.Goals as goal
 
 pub draw_numbers-requires-clause-there : goal.draw_numbers-requires-clause-there
@@ -266,3 +267,9 @@ returns-clause-knows g c =
 
 pub returns-clause-others : goal.returns-clause-others
 returns-clause-others g c = c.in_ok-clear.ensures.others
+
+pub returns-clause-pinned : goal.returns-clause-pinned
+returns-clause-pinned g c =
+    let p = c.args.parts.now in
+    let flushed : Parts = record p { manifest = c.flush.new.manifest; log = c.in_ok-parts.field-0; numbers = c.in_ok-drawn.drawn.numbers } in
+    pinned_again c.args.views.now p flushed c.clear.new.parts (pinned_listed c.args.views.now p flushed (λ number some. refl) refl refl) c.in_ok-clear.ensures.pinned

@@ -7,6 +7,7 @@ use Rattle.sasi_tables.proofs.Composition.{passes, passes_not}
 use Rattle.sasi_tables.proofs.FlushingParts.{is_unflushed, memory_at, table_at}
 use Rattle.sasi_tables.proofs.HeldChanges.{has_map}
 use Rattle.sasi_tables.proofs.Unflushed.{any_merged}
+use Rattle.sasi_tables.proofs.PinnedMaps.{pinned_listed}
 use Rattle.sasi_tables.proofs.flush_table.flush_unless_empty.Goals as goal
 
 pub is_unflushed-requires : goal.is_unflushed-requires
@@ -42,3 +43,9 @@ returns-then-is_unflushed-clause-knows g c = c.flush_table.ensures.knows
 
 pub returns-clause-knows : goal.returns-clause-knows
 returns-clause-knows g c = record { definitions_are = refl; timestamp_is = refl }
+
+pub returns-then-is_unflushed-clause-pinned : goal.returns-then-is_unflushed-clause-pinned
+returns-then-is_unflushed-clause-pinned g c = c.flush_table.ensures.pinned
+
+pub returns-clause-pinned : goal.returns-clause-pinned
+returns-clause-pinned g c = pinned_listed c.args.views.now c.args.parts.now c.args.parts.now (λ number some. refl) refl refl

@@ -1,16 +1,18 @@
-use Rattle.std.proofs.Common.{◌≡◌, ◌-◌, List, Some, refl, slice_get, subst, sym, arith}
+use Rattle.std.proofs.Common.{◌≡◌, ◌-◌, List, Some, refl, slice_get, subst, sym, arith, ◌∷◌, [], Bool, ◌∙◌}
 use Rattle.std.specs.List.{AllByRecursion}
 use Rattle.sasi_layout.specs.Classes.{KnowsIndexes}
 use Rattle.sasi_layout.specs.Moves.{after_moves}
 use Rattle.sasi_layout.specs.Serving.{CanChange, Serves, StoreInMemory}
-use Rattle.sasi_tables.specs.Freezing.{freeze_where}
+use Rattle.sasi_tables.specs.Freezing.{HasFrozenIf, freeze_where}
 use Rattle.sasi_tables.specs.Held.{HasMapFor, HeldTable, held_of, in_memory}
 use Rattle.sasi_tables.specs.TablesView.{held_in, memory_of, wanted_of}
 use Rattle.sasi_tables.specs.declared.table_maps.TableMaps.{TableMaps}
 use Rattle.sasi_tables.proofs.FlushingParts.{memory_at, table_at}
 use Rattle.sasi_tables.proofs.HeldChanges.{has_map}
-use Rattle.sasi_tables.proofs.Freezing.{empty_memory, frozen_knows, frozen_parts, held_memory, where_ready, where_serves}
+use Rattle.sasi_tables.proofs.Freezing.{empty_memory, frozen_empty, frozen_knows, frozen_parts, held_memory, where_ready, where_serves}
 use Rattle.std.proofs.lemmas.Result.{on_ok_weaker}
+use Rattle.sasi_tables.proofs.PinnedMaps.{pinned_listed}
+use Rattle.sasi_layout.specs.Statements.{any_partition}
 use Rattle.sasi_tables.proofs.frozen.freeze.Goals as goal
 
 pub holds_any-requires : goal.holds_any-requires
@@ -91,3 +93,33 @@ returns-clause-serves g c l serves =
 
 pub returns-clause-knows : goal.returns-clause-knows
 returns-clause-knows g c = record { definitions_are = refl; timestamp_is = refl }
+
+pub returns-then-holds_any-clause-frozen : goal.returns-then-holds_any-clause-frozen
+returns-then-holds_any-clause-frozen g c =
+    let p = c.args.parts.now in
+    let tells = subst (λ (ts : List TableMaps). (t : HeldTable) → slice_get (held_of p.maps ts) (c.args.table - 1) ≡ Some t → c.holds_any.result ≡ any_partition (t.memtable.partitions ∷ [])) c.deref.ensures.value c.holds_any.ensures in
+    on_ok_weaker c.freeze_held.result (λ frozen t found. subst (λ (b : Bool). HasFrozenIf b (c.args.table - 1) t p c.freeze_held.new.parts) (sym c.if-holds_any.true ∙ tells t found) (frozen t found)) c.freeze_held.ensures.frozen
+
+pub returns-clause-frozen : goal.returns-clause-frozen
+returns-clause-frozen g c t found =
+    let p = c.args.parts.now in
+    let tells = subst (λ (ts : List TableMaps). (t : HeldTable) → slice_get (held_of p.maps ts) (c.args.table - 1) ≡ Some t → c.holds_any.result ≡ any_partition (t.memtable.partitions ∷ [])) c.deref.ensures.value c.holds_any.ensures in
+    subst (λ (b : Bool). HasFrozenIf b (c.args.table - 1) t p p) (sym c.if-holds_any.false ∙ tells t found) refl
+
+pub returns-then-holds_any-clause-empty : goal.returns-then-holds_any-clause-empty
+returns-then-holds_any-clause-empty g c =
+    let p = c.args.parts.now in
+    let own : (t : HeldTable) × (slice_get (held_in p) (c.args.table - 1) ≡ Some t) = table_at p c.args.table c.requires.there in
+    on_ok_weaker c.freeze_held.result (λ frozen. frozen_empty p c.freeze_held.new.parts (c.args.table - 1) own.0 own.1 (frozen own.0 own.1)) c.freeze_held.ensures.frozen
+
+pub returns-clause-empty : goal.returns-clause-empty
+returns-clause-empty g c t found =
+    let p = c.args.parts.now in
+    let tells = subst (λ (ts : List TableMaps). (t : HeldTable) → slice_get (held_of p.maps ts) (c.args.table - 1) ≡ Some t → c.holds_any.result ≡ any_partition (t.memtable.partitions ∷ [])) c.deref.ensures.value c.holds_any.ensures in
+    sym (tells t found) ∙ c.if-holds_any.false
+
+pub returns-then-holds_any-clause-pinned : goal.returns-then-holds_any-clause-pinned
+returns-then-holds_any-clause-pinned g c = c.freeze_held.ensures.pinned
+
+pub returns-clause-pinned : goal.returns-clause-pinned
+returns-clause-pinned g c views = pinned_listed views c.args.parts.now c.args.parts.now (λ number some. refl) refl refl

@@ -15,6 +15,7 @@ use Rattle.sasi_tables.proofs.HeldChanges.{frozen_held, frozen_mapped}
 use Rattle.sasi_tables.proofs.HeldMaps.{held_there, one_there}
 use Rattle.sasi_tables.proofs.IndexedTables.{empty_can}
 use Rattle.sasi_tables.proofs.TablesInMemory.{inside_there}
+use Rattle.sasi_tables.proofs.PinnedMaps.{pinned_frozen}
 use Rattle.sasi_tables.proofs.frozen.freeze_held.Goals as goal
 
 pub bounds-as_slice-index : goal.bounds-as_slice-index
@@ -59,3 +60,10 @@ returns-clause-frozen g c t found =
       mapped = subst (λ n. AreMapped after n (wanted_of p) new) next (frozen_mapped p.maps p.last_map (wanted_of p) p.tables.items c.requires.mapped c.args.index x own.1 c.new-empty.result _ after new change had);
       rest = refl;
     }
+
+pub returns-clause-pinned : goal.returns-clause-pinned
+returns-clause-pinned g c views =
+    let p = c.args.parts.now in
+    let own : (x : TableMaps) × (slice_get p.tables.items c.args.index ≡ Some x) = inside_there p.tables.items c.args.index c.requires.inside in
+    let next : suc p.last_map ≡ c.freeze_map.new.last = omega (arith, c.in_ok-freeze_map.ensures.last) in
+    pinned_frozen views p _ c.args.index c.new-empty.result _ own.0 (c.in_ok-freeze_map.ensures.ok own.0 own.1) next

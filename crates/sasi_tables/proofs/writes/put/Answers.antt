@@ -1,5 +1,5 @@
 use Rattle.std.specs.Prelude.{max, ◌∷◌, []}
-use Rattle.std.proofs.Common.{Ok, ap, refl, sym, subst, ◌∙◌, ℕ}
+use Rattle.std.proofs.Common.{Ok, ap, refl, sym, subst, ◌∙◌, ℕ, ◌≡◌, ◌-◌, Some, slice_get, arith}
 use Rattle.std.proofs.lemmas.Result.{err_from_is_err_and}
 use Rattle.sasi_types.specs.Token.{AreBytes}
 use Rattle.sasi_layout.specs.Moves.{Put}
@@ -11,6 +11,9 @@ use Rattle.sasi_tables.specs.declared.fault.StepFault.TheVariants.{OutOfMemory}
 use Rattle.sasi_tables.specs.Faults.{fault_of_call}
 use Rattle.sasi_tables.proofs.MoveCauses.{call_failed, call_made, call_plain, made_then_full}
 use Rattle.sasi_tables.proofs.Putting.{has_table, map_there_for, put_at, put_can, put_known, put_made, put_maps, put_memory, put_stopped, put_tables_are, put_there}
+use Rattle.sasi_tables.proofs.PinnedMaps.{pinned_put}
+use Rattle.sasi_tables.proofs.TablesInMemory.{inside_there}
+use Rattle.sasi_tables.specs.declared.table_maps.TableMaps.{TableMaps}
 use Rattle.sasi_tables.proofs.writes.put.Goals as goal
 
 pub merge-requires-clause-there : goal.merge-requires-clause-there
@@ -76,3 +79,11 @@ returns-clause-knows g c = record {
   definitions_are = refl;
   timestamp_is = c.max-parts.ensures ∙ ap (λ (n : ℕ). max c.args.parts.now.max_timestamp n) c.in_ok-time.ensures.time;
 }
+
+pub returns-clause-pinned : goal.returns-clause-pinned
+returns-clause-pinned g c views =
+    let p = c.args.parts.now in
+    let at = c.args.mutation.table - 1 in
+    let has = map_there_for (g.H.Host.view c.args.host.now) p c.args.mutation c.requires.ready c.requires.parts c.requires.writable in
+    let own : (t : TableMaps) × (slice_get p.tables.items at ≡ Some t) = inside_there p.tables.items at (omega (arith, has.some, has.inside)) in
+    pinned_put views p _ p.numbers.log c.args.mutation own.0 own.1 (c.in_ok-time.ensures.ok own.0 own.1) refl

@@ -2,11 +2,12 @@ use Rattle.std.proofs.Common.{List, subst, sym}
 use Rattle.std.specs.List.{AllByRecursion}
 use Rattle.sasi_layout.specs.Classes.{KnowsClasses, KnowsIndexes}
 use Rattle.sasi_types.specs.declared.class.Class.{Class}
-use Rattle.std.proofs.lemmas.Result.{err_from_is_err_and}
+use Rattle.std.proofs.lemmas.Result.{err_from_is_err_and, on_ok_weaker}
 use Rattle.sasi_layout.specs.Statements.{are_full, flush_where}
 use Rattle.sasi_tables.specs.TablesView.{memory_of}
 use Rattle.sasi_tables.proofs.Composition.{put_alone, put_then}
 use Rattle.sasi_tables.proofs.KnownThen.{knows_then}
+use Rattle.sasi_tables.proofs.PinnedMaps.{pinned_again}
 use Rattle.sasi_tables.proofs.writes.write.Goals as goal
 
 pub returns-in_err-put-clause-makes : goal.returns-in_err-put-clause-makes
@@ -28,3 +29,8 @@ pub returns-clause-knows : goal.returns-clause-knows
 returns-clause-knows g c =
     let put = c.in_ok-put.ensures.knows in
     knows_then (memory_of c.flush_full.new.parts) _ _ _ _ c.flush_full.result put.definitions_are put.timestamp_is c.flush_full.ensures.knows
+
+pub returns-clause-pinned : goal.returns-clause-pinned
+returns-clause-pinned g c =
+    let views = c.args.views.now in
+    on_ok_weaker c.flush_full.result (pinned_again views c.args.parts.now c.put.new.parts c.flush_full.new.parts (c.in_ok-put.ensures.pinned views)) c.flush_full.ensures.pinned

@@ -1,11 +1,16 @@
-use Rattle.std.proofs.Common.{map, refl, subst, sym}
+use Rattle.std.proofs.Common.{ℕ, false, List, ap, map, refl, subst, sym}
+use Rattle.std.specs.List.{AllByRecursion}
 use Rattle.std.proofs.lemmas.Result.{err_from_is_err_and}
 use Rattle.sasi_layout.specs.Classes.{KnowsClasses}
 use Rattle.sasi_layout.specs.Serving.{CanChange, Serves, StoreInMemory, known_in_memory}
 use Rattle.sasi_machine.specs.Prepares.{IsStateOf}
+use Rattle.sasi_model.specs.Sessions.{new_session}
 use Rattle.sasi_model.specs.State.{State}
 use Rattle.sasi_recover.specs.OpenedFolder.{opened_store}
-use Rattle.sasi_views.proofs.BookLaws.{new_counted}
+use Rattle.sasi_recheck.specs.Rows.{KnowsWhere}
+use Rattle.sasi_store.specs.Cursors.{AreCursorsOf, Opened, views_told}
+use Rattle.sasi_store.specs.declared.session_state.OpenCursor.{OpenCursor}
+use Rattle.sasi_store.proofs.KeptCursors.{new_cursors}
 use Rattle.sasi_store.proofs.Known.{opened_state, reports_on}
 use Rattle.sasi_store.proofs.store.Store.open.Goals as goal
 
@@ -19,12 +24,20 @@ returns-clause-ready g c = record {
   memory = subst (CanChange (g.H.Host.view c.open.new.host)) (sym c.in-Ok.ensures.memory) c.in_ok-opened.ensures.ready;
   usable = refl;
   parts = c.in-Ok.ensures.parts;
-  none_out = new_counted c.new.result c.new.ensures;
+  cursors = new_cursors (g.H.Host.view c.open.new.host).files c.in-Ok.parts (record { trace = false; views = c.new-views.result; cursors = c.new-cursors.result }) c.new-cursors.ensures c.new-views.ensures;
 }
 
 pub returns-clause-serves : goal.returns-clause-serves
 returns-clause-serves g c folder l files shape =
-    record { serves = subst (λ (s : StoreInMemory). Serves (g.H.Host.view c.open.new.host) s l) (sym c.in-Ok.ensures.memory) (c.in_ok-opened.ensures.serves folder l files shape); trace_is = refl; cursors_are = refl }
+    record {
+      serves = subst (λ (s : StoreInMemory). Serves (g.H.Host.view c.open.new.host) s l) (sym c.in-Ok.ensures.memory) (c.in_ok-opened.ensures.serves folder l files shape);
+      trace_is = refl;
+      cursors_are = subst (λ (es : Opened). AreCursorsOf (g.H.Host.view c.open.new.host).files c.in-Ok.parts.maps es new_session) (sym c.new-cursors.ensures) tt;
+      views_are = sym (ap views_told c.new-cursors.ensures);
+    }
+
+pub returns-clause-no_cursors : goal.returns-clause-no_cursors
+returns-clause-no_cursors g c = ap (λ (es : Opened). map (λ (e : List ℕ × OpenCursor). e.0) es) c.new-cursors.ensures
 
 pub returns-clause-state : goal.returns-clause-state
 returns-clause-state g c =
@@ -42,7 +55,11 @@ returns-in_err-opened-clause-unopened g c =
 
 pub returns-clause-classes : goal.returns-clause-classes
 returns-clause-classes g c =
-    subst (KnowsClasses (map (λ b. (goal.Analyzer-dyn g (b.vtable, b.value)).kind b.value) c.args.kit.now.objects.items)) (sym c.in-Ok.ensures.memory) c.in_ok-opened.ensures.classes
+    let kinds = map (λ b. (goal.Analyzer-dyn g (b.vtable, b.value)).kind b.value) c.args.kit.now.objects.items in
+    record {
+      tables = subst (KnowsClasses kinds) (sym c.in-Ok.ensures.memory) c.in_ok-opened.ensures.classes;
+      cursors = subst (AllByRecursion (λ (e : List ℕ × OpenCursor). KnowsWhere kinds e.1.rows.reader.rows.filter)) (sym c.new-cursors.ensures) tt;
+    }
 
 pub returns-in_err-opened-clause-absent : goal.returns-in_err-opened-clause-absent
 returns-in_err-opened-clause-absent g c =
