@@ -135,7 +135,8 @@ pub record Serves (v : View) (store : StoreInMemory) (l : Layout) : Type 0 where
 
 -- ---- the end
 
--- what the end of a script leaves of a layout: no cursor and no task; until there are some, the layout as it is
+-- what the end of a script leaves of a layout: a cursor is the session's and has no file of its own, and there is
+-- no task yet, so the layout as it is
 abbrev pub closed : Layout → Layout
 closed l = l
 
