@@ -1,4 +1,5 @@
 pub mod AskedLaws
+pub mod AskedRows
 pub mod BeginLaws
 pub mod CandidateLaws
 pub mod GivenLaws

@@ -1,5 +1,5 @@
 -- A new reader has the rows of the answer before it, and pays what its plan may take; each call gives the next row and keeps that promise.
-use Rattle.std.proofs.Common.{◌≡◌, ℕ, ◌+◌, ◌≤◌, Bool, List, [], ◌∷◌, map, take, drop, sum, Option, None, Some, Result, Ok, Err, IfOk, OnOk, refl, sym, ap, subst, ◌∙◌, arith}
+use Rattle.std.proofs.Common.{◌≡◌, ℕ, suc, ◌+◌, ◌-◌, ◌≤◌, Bool, List, [], ◌∷◌, map, take, drop, sum, Option, None, Some, Result, Ok, Err, IfOk, OnOk, refl, sym, ap, subst, ◌∙◌, arith}
 use Rattle.std.specs.FinMap.{get}
 use Rattle.std.specs.List.{sum_by}
 use Rattle.sasi_types.specs.declared.column.ColumnType.{ColumnType}
@@ -32,9 +32,10 @@ use Rattle.sasi_engine.specs.HitCandidates.{PlanWorld, candidates_at, looked_gro
 use Rattle.sasi_engine.specs.TokenHits.{contents_in_files}
 use Rattle.sasi_plan.specs.declared.plan.PlanSource.{PlanSource}
 use Rattle.sasi_plan.specs.declared.plan.PlanSource.TheVariants.{Nothing, OfKey, OfTable}
-use Rattle.sasi_plan.specs.Answers.{CountsTo, GivesNext, ReadsLeft, RowsLeft, paid, row_of}
+use Rattle.sasi_plan.specs.Answers.{CountsTo, GivesNext, ReadsLeft, ReadsUpTo, RowsLeft, lesser, paid, row_of}
 use Rattle.sasi_plan.specs.Plans.{PlanView}
 use Rattle.sasi_plan.specs.Reading.{IsBounded, IsBoundedBy, IsMadeFor, IsPending, IsReadIn, KeyPrices, PendingLeaves, PendingPays, PricesOf, TablePrices, listed_files, plan_reads, reads_by}
+use Rattle.sasi_plan.proofs.AskedRows.{AsksOne, allowed_lesser, asked_lesser, fewer_paid, next_lesser}
 use Rattle.sasi_plan.proofs.GivenLaws.{called, counted_more, first_pays, paid_nothing}
 use Rattle.sasi_plan.proofs.PaidLaws.{hits_paid, one_paid}
 
@@ -128,17 +129,19 @@ module _ (w : PlanWorld) (plan : PlanView) (listed : List view.Part) (book : Boo
   new_counts =
       (first, first_left, by_plan (λ cs. counted_on 0 (checked plan.limit (where_of cs) w.parts) ≡ counted_on 0 (looked plan.limit (answers (where_of cs)) first)) refl)
 
-  pub new_reads : IsBounded w plan.source
+  -- what is paid for the rows that are asked for is no more than what the plan takes with that LIMIT
+  pub new_reads : (asked : Option ℕ) → IsBounded w plan.source
       → (left : List Candidate) × (many : ℕ) × (prices : List ℕ) × PendingLeaves plan.source plan.types listed (Some w.folder) book left × PendingPays plan.source plan.types listed (Some w.folder) book many prices
-      × (many + paid plan.limit (answers (where_of plan.conditions)) left prices ≤ plan_reads w plan.source plan.limit)
-  new_reads bounded =
-      let takes = plan_within w plan.limit plan.source plan.types listed is.made bounded in (
+      × (many + paid (lesser asked plan.limit) (answers (where_of plan.conditions)) left prices ≤ plan_reads w plan.source (lesser asked plan.limit))
+  new_reads asked bounded =
+      let limit = lesser asked plan.limit in
+      let takes = plan_within w limit plan.source plan.types listed is.made bounded in (
         first,
         takes.0,
         takes.1,
         first_left,
         (w, book, pending_in, takes.2),
-        by_plan (λ cs. takes.0 + paid plan.limit (answers (where_of cs)) first takes.1 ≤ plan_reads w plan.source plan.limit) takes.3,
+        by_plan (λ cs. takes.0 + paid limit (answers (where_of cs)) first takes.1 ≤ plan_reads w plan.source limit) takes.3,
       )
 
 -- ---- a call
@@ -152,6 +155,10 @@ module _ {C : Type 0} (Leaves : C → Option Folder → Book → List Candidate 
     pub reads : (left : List Candidate) (most : ℕ) (prices : List ℕ) → Leaves old.candidates was book left → Pays old.candidates was book most prices
         → Spends (λ rest. Pays new.candidates now book rest (drop (asked_in old.rows_left (answers (where_of old.filter)) left) prices)) (most + sum (take (asked_in old.rows_left (answers (where_of old.filter)) left) prices)) before after result
     pub same_filter : new.filter ≡ old.filter
+
+  -- **What so many rows take is enough for fewer.**
+  pub fewer_reads : (r : RecheckView C) (files : Option Folder) (book : Book) (n m most : ℕ) → n ≤ m → ReadsUpTo Leaves Pays r files book (Some m) most → ReadsUpTo Leaves Pays r files book (Some n) most
+  fewer_reads r files book n m most within is = (is.0, is.1, is.2, is.3, is.4, omega (arith, is.5, fewer_paid n m within r.rows_left (answers (where_of r.filter)) is.0 is.2))
 
   module _ (book : Book) (old new : RecheckView C) (was now : Option Folder) (before after : ℕ) where
     -- by the conditions, and the rows that are allowed
@@ -199,23 +206,57 @@ module _ {C : Type 0} (Leaves : C → Option Folder → Book → List Candidate 
         let all : looked old.rows_left passes is.0 ≡ looked_in old.rows_left passes is.0 = omega (arith, call.looked_is, call.looked_ends none) in
         has.counts is.0 is.1 ∙ ap (counted_on old.checked) (sym all) ∙ sym is.2
 
+    -- ---- what it takes, up to the last of the rows that are asked for
+
+    module _ (asked : Option ℕ) (one : AsksOne asked) (most : ℕ) (is : ReadsUpTo Leaves Pays old was book asked most) where
+      abbrev limit : Option ℕ
+      limit = lesser asked old.rows_left
+
+      abbrev here : ℕ
+      here = asked_in old.rows_left passes is.0
+
+      same : asked_in limit passes is.0 ≡ here
+      same = asked_lesser passes asked old.rows_left one is.0
+
+      failing_spends : (fault : ReadFault) → HasRechecked book old new was now before after (Err fault) → after ≤ before + most
+      failing_spends fault has =
+          let first : sum (take here is.2) ≤ paid limit passes is.0 is.2 = subst (λ k. sum (take k is.2) ≤ paid limit passes is.0 is.2) same (first_pays limit passes is.0 is.2) in
+          omega (arith, has.reads is.0 is.1 is.2 is.3 is.4, is.5, first)
+
+      -- what is left is left for the rows behind the one that was found
+      finding_spends : (found : Option (List ℕ × Partition)) → HasRechecked book old new was now before after (Ok found)
+          → (rest : ℕ) × ReadsUpTo Leaves Pays new now book (allowed_after asked found) rest × (after + rest ≤ before + most)
+      finding_spends found has =
+          let call = called passes limit (Leaves new.candidates now book) is.0 found (allowed_lesser passes asked old.rows_left one (Leaves new.candidates now book) is.0 found (has.row is.0 is.3)) in
+          let spent = has.reads is.0 is.1 is.2 is.3 is.4 in
+          let prices = drop here is.2 in
+          let others = lesser (allowed_after asked found) (allowed_after old.rows_left found) in
+          let own = paid others passes call.rest prices in
+          let both : sum (take here is.2) + own ≤ paid limit passes is.0 is.2 =
+          subst (λ l. sum (take here is.2) + paid l passes call.rest prices ≤ paid limit passes is.0 is.2) (next_lesser asked old.rows_left found)
+          (subst (λ k. sum (take k is.2) + paid (allowed_after limit found) passes call.rest (drop k is.2) ≤ paid limit passes is.0 is.2) same (call.paid_is is.2)) in (
+            spent.0 + own,
+            (
+              call.rest,
+              spent.0,
+              prices,
+              call.others,
+              spent.1,
+              carried (allowed_after old.rows_left found) (λ l cs. spent.0 + paid (lesser (allowed_after asked found) l) (answers (where_of cs)) call.rest prices ≤ spent.0 + own) has.allowed has.same_filter (omega arith),
+            ),
+            omega (arith, spent.2, is.5, both),
+          )
+
     pub next_reads : (result : Result (Option (List ℕ × Partition)) ReadFault) → HasRechecked book old new was now before after result
         → (most : ℕ) → ReadsLeft Leaves Pays old was book most → Spends (ReadsLeft Leaves Pays new now book) most before after result
-    next_reads (Err fault) has most is = omega (arith, has.reads is.0 is.1 is.2 is.3 is.4, is.5, first_pays old.rows_left passes is.0 is.2)
-    next_reads (Ok found) has most is =
-        let call = called passes old.rows_left (Leaves new.candidates now book) is.0 found (has.row is.0 is.3) in
-        let limit = allowed_after old.rows_left found in
-        let spent = has.reads is.0 is.1 is.2 is.3 is.4 in
-        let prices = drop (asked_in old.rows_left passes is.0) is.2 in
-        let own = paid limit passes call.rest prices in (
-          spent.0 + own,
-          (
-            call.rest,
-            spent.0,
-            prices,
-            call.others,
-            spent.1,
-            carried limit (λ l cs. spent.0 + paid l (answers (where_of cs)) call.rest prices ≤ spent.0 + own) has.allowed has.same_filter (omega arith),
-          ),
-          omega (arith, spent.2, is.5, call.paid_is is.2),
-        )
+    next_reads (Err fault) has most is = failing_spends None tt most is fault has
+    next_reads (Ok None) has most is = finding_spends None tt most is None has
+    next_reads (Ok (Some row)) has most is = finding_spends None tt most is (Some row) has
+
+    pub next_reads_up_to : (result : Result (Option (List ℕ × Partition)) ReadFault) → HasRechecked book old new was now before after result
+        → (n most : ℕ) → ReadsUpTo Leaves Pays old was book (Some (suc n)) most → Spends (ReadsUpTo Leaves Pays new now book (Some n)) most before after result
+    next_reads_up_to (Err fault) has n most is = failing_spends (Some (suc n)) tt most is fault has
+    next_reads_up_to (Ok None) has n most is = (let spent = finding_spends (Some (suc n)) tt most is None has in (spent.0, fewer_reads new now book n (suc n) spent.0 (omega arith) spent.1, spent.2))
+    next_reads_up_to (Ok (Some row)) has n most is =
+        let spent = finding_spends (Some (suc n)) tt most is (Some row) has in
+        (spent.0, fewer_reads new now book n (suc n - 1) spent.0 (omega arith) spent.1, spent.2)

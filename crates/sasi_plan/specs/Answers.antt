@@ -1,5 +1,5 @@
 -- The rows that a reader has still to give, and what they cost.
-use Rattle.std.specs.Prelude.{◌≡◌, ℕ, zero, suc, ◌+◌, ◌≤◌, Bool, if◌then◌else◌, List, [], ◌∷◌, map, sum, Option, None, Some}
+use Rattle.std.specs.Prelude.{◌≡◌, ℕ, zero, suc, ◌+◌, ◌≤◌, min, Bool, if◌then◌else◌, List, [], ◌∷◌, map, sum, Option, None, Some}
 use Rattle.sasi_types.specs.declared.decorated_key.DecoratedKey.{DecoratedKey}
 use Rattle.sasi_host.specs.Names.{Folder}
 use Rattle.sasi_memindex.specs.Book.{Book}
@@ -26,6 +26,12 @@ abbrev pub paid : {A : Type 0} → Option ℕ → (A → Bool) → List A → Li
 paid None test xs prices = sum prices
 paid (Some n) test xs prices = paid_of n test xs prices
 
+-- the lesser of two numbers of rows, where None is no bound
+abbrev pub lesser : Option ℕ → Option ℕ → Option ℕ
+lesser None limit = limit
+lesser (Some n) None = Some n
+lesser (Some n) (Some m) = Some (min n m)
+
 -- ---- a reader, by what its source of candidates has left
 
 module _ {C : Type 0} (Leaves : C → Option Folder → Book → List Candidate → Type 0) where
@@ -37,11 +43,15 @@ module _ {C : Type 0} (Leaves : C → Option Folder → Book → List Candidate 
   abbrev pub CountsTo : RecheckView C → Option Folder → Book → ℕ → Type 0
   CountsTo r files book count = (left : List Candidate) × Leaves r.candidates files book left × (count ≡ counted_on r.checked (looked r.rows_left (answers (where_of r.filter)) left))
 
+  -- **Up to the last of the rows that are asked for**, or of those that LIMIT allows, at most so many reads are taken.
+  abbrev pub ReadsUpTo : (C → Option Folder → Book → ℕ → List ℕ → Type 0) → RecheckView C → Option Folder → Book → Option ℕ → ℕ → Type 0
+  ReadsUpTo Pays r files book asked most =
+      (left : List Candidate) × (many : ℕ) × (prices : List ℕ) × Leaves r.candidates files book left × Pays r.candidates files book many prices
+      × (many + paid (lesser asked r.rows_left) (answers (where_of r.filter)) left prices ≤ most)
+
   -- all that is left takes at most so many reads
   abbrev pub ReadsLeft : (C → Option Folder → Book → ℕ → List ℕ → Type 0) → RecheckView C → Option Folder → Book → ℕ → Type 0
-  ReadsLeft Pays r files book most =
-      (left : List Candidate) × (many : ℕ) × (prices : List ℕ) × Leaves r.candidates files book left × Pays r.candidates files book many prices
-      × (many + paid r.rows_left (answers (where_of r.filter)) left prices ≤ most)
+  ReadsLeft Pays r files book most = ReadsUpTo Pays r files book None most
 
 -- ---- a call
 

@@ -1,5 +1,5 @@
 // Readers.
-ghost use Rattle.std.specs.Prelude.{◌≡◌, ℕ, List, None, Option, Some, true, IfErr, IfOk, OnOk, map};
+ghost use Rattle.std.specs.Prelude.{◌≡◌, ℕ, suc, List, None, Option, Some, true, IfErr, IfOk, OnOk, map};
 ghost use Rattle.sasi_types.specs.declared.class.Class.{Class};
 ghost use Rattle.sasi_types.specs.declared.column.ColumnType.{ColumnType};
 ghost use Rattle.sasi_host.specs.declared.damage.Damage.{Damage};
@@ -20,7 +20,7 @@ ghost use Rattle.sasi_engine.specs.HitCandidates.{PlanWorld};
 ghost use Rattle.sasi_engine.specs.Plans.{is_file_of, map_numbers};
 ghost use Rattle.sasi_sources.specs.Maps.{IsOneOf};
 ghost use Rattle.sasi_scan.specs.Numbered.{views_numbered};
-ghost use Rattle.sasi_plan.specs.Answers.{CountsTo, GivesNext, ReadsLeft, RowsLeft, row_of};
+ghost use Rattle.sasi_plan.specs.Answers.{CountsTo, GivesNext, ReadsLeft, ReadsUpTo, RowsLeft, lesser, row_of};
 ghost use Rattle.sasi_plan.specs.Faults.{GivesPicked, IsMissing, OnPlanMissing, RowFaults, SpendsRow};
 ghost use Rattle.sasi_plan.specs.Reading.{IsBounded, IsReadIn, PendingReady, PendingShows, plan_reads};
 
@@ -58,6 +58,9 @@ impl Reader {
             → CountsTo ⟦<PlanCandidates as Candidates>⟧.leaves result.rows (Some w.folder) book (counted_on 0 (checked plan.limit (where_of plan.conditions) w.parts)) }
         ensures reads { (w : PlanWorld) (book : Book) → IsReadIn w plan view book → IsBounded w plan.source
             → ReadsLeft ⟦<PlanCandidates as Candidates>⟧.leaves ⟦<PlanCandidates as Candidates>⟧.pays result.rows (Some w.folder) book (plan_reads w plan.source plan.limit) }
+        // Its first n rows take no more than the same plan with LIMIT n.
+        ensures reads_up_to { (w : PlanWorld) (book : Book) → IsReadIn w plan view book → IsBounded w plan.source
+            → (n : ℕ) → ReadsUpTo ⟦<PlanCandidates as Candidates>⟧.leaves ⟦<PlanCandidates as Candidates>⟧.pays result.rows (Some w.folder) book (Some n) (plan_reads w plan.source (lesser (Some n) plan.limit)) }
         // It reads no files but those of the view, and looks at no maps but its own.
         ensures ready { (files : Option Folder) (book : Book) → PendingReady plan.source view book → ⟦<PlanCandidates as Candidates>⟧.ready result.rows.candidates files book }
         ensures opens { (name : FileName) → ⟦<PlanCandidates as Candidates>⟧.opens result.rows.candidates name → is_file_of view name ≡ true }
@@ -100,6 +103,9 @@ impl Reader {
         ensures counted { (count : ℕ) → CountsTo ⟦<PlanCandidates as Candidates>⟧.leaves self.old.rows (H.view host.old).files maps.now count → IfOk result (λ row. row ≡ None → self.new.rows.checked ≡ count) }
         ensures reads { (most : ℕ) → ReadsLeft ⟦<PlanCandidates as Candidates>⟧.leaves ⟦<PlanCandidates as Candidates>⟧.pays self.old.rows (H.view host.old).files maps.now most
             → Spends (ReadsLeft ⟦<PlanCandidates as Candidates>⟧.leaves ⟦<PlanCandidates as Candidates>⟧.pays self.new.rows (H.view host.new).files maps.now) most (H.view host.old).reads (H.view host.new).reads result }
+        // It reads ahead of no row: it takes what its row does, and leaves what the rows after it take.
+        ensures reads_up_to { (n most : ℕ) → ReadsUpTo ⟦<PlanCandidates as Candidates>⟧.leaves ⟦<PlanCandidates as Candidates>⟧.pays self.old.rows (H.view host.old).files maps.now (Some (suc n)) most
+            → Spends (ReadsUpTo ⟦<PlanCandidates as Candidates>⟧.leaves ⟦<PlanCandidates as Candidates>⟧.pays self.new.rows (H.view host.new).files maps.now (Some n)) most (H.view host.old).reads (H.view host.new).reads result }
         ensures ready { OnOk result (⟦<PlanCandidates as Candidates>⟧.ready self.new.rows.candidates (H.view host.new).files maps.now) }
         ensures uses { (number : ℕ) → ⟦<PlanCandidates as Candidates>⟧.uses self.new.rows.candidates number → ⟦<PlanCandidates as Candidates>⟧.uses self.old.rows.candidates number }
         // In any file what it gives can be printed.
@@ -140,6 +146,8 @@ impl Reader {
         ensures counted { (count : ℕ) → CountsTo ⟦<PlanCandidates as Candidates>⟧.leaves self.old.rows (H.view host.old).files maps.now count → IfOk result (λ row. row ≡ None → self.new.rows.checked ≡ count) }
         ensures reads { (most : ℕ) → ReadsLeft ⟦<PlanCandidates as Candidates>⟧.leaves ⟦<PlanCandidates as Candidates>⟧.pays self.old.rows (H.view host.old).files maps.now most
             → SpendsRow (ReadsLeft ⟦<PlanCandidates as Candidates>⟧.leaves ⟦<PlanCandidates as Candidates>⟧.pays self.new.rows (H.view host.new).files maps.now) most (H.view host.old).reads (H.view host.new).reads result }
+        ensures reads_up_to { (n most : ℕ) → ReadsUpTo ⟦<PlanCandidates as Candidates>⟧.leaves ⟦<PlanCandidates as Candidates>⟧.pays self.old.rows (H.view host.old).files maps.now (Some (suc n)) most
+            → SpendsRow (ReadsUpTo ⟦<PlanCandidates as Candidates>⟧.leaves ⟦<PlanCandidates as Candidates>⟧.pays self.new.rows (H.view host.new).files maps.now (Some n)) most (H.view host.old).reads (H.view host.new).reads result }
         ensures ready { OnOk result (⟦<PlanCandidates as Candidates>⟧.ready self.new.rows.candidates (H.view host.new).files maps.now) }
         ensures uses { (number : ℕ) → ⟦<PlanCandidates as Candidates>⟧.uses self.new.rows.candidates number → ⟦<PlanCandidates as Candidates>⟧.uses self.old.rows.candidates number }
         ensures still_prints { OnOk result (⟦<PlanCandidates as Candidates>⟧.prints self.new.rows.candidates (H.view host.new).files maps.now self.old.picked.key) }

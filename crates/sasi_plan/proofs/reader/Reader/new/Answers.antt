@@ -6,7 +6,7 @@ use Rattle.sasi_candidates.specs.Parts.{maps_of}
 use Rattle.sasi_recheck.specs.Rows.{RecheckView, counted_on}
 use Rattle.sasi_plan.specs.contracts.plan_candidates.PlanCandidatesCandidates.TheImpl as source
 use Rattle.sasi_plan.specs.declared.plan_candidates.PlanCandidates.{PlanCandidates}
-use Rattle.sasi_plan.specs.Answers.{CountsTo, ReadsLeft, RowsLeft, row_of}
+use Rattle.sasi_plan.specs.Answers.{CountsTo, ReadsLeft, ReadsUpTo, RowsLeft, lesser, row_of}
 use Rattle.sasi_plan.specs.Plans.{PlanView}
 use Rattle.sasi_plan.specs.Reading.{plan_reads}
 use Rattle.sasi_plan.proofs.ReaderLaws.{new_counts, new_reads, new_rows}
@@ -49,4 +49,17 @@ returns-clause-reads c w book is bounded =
     (subst
     (λ (p : PlanView). ReadsLeft source.ghosts.leaves source.ghosts.pays
     (record { candidates = record { alloc = c.plan.inside.alloc; view = c.args.view; pending = Some (record { types = p.types; source = p.source }); source = None }; filter = p.conditions; rows_left = p.limit; checked = 0 }) (Some w.folder) book most)
-    (sym c.plan.view_is) (new_reads w plan c.args.view book is bounded)))
+    (sym c.plan.view_is) (new_reads w plan c.args.view book is None bounded)))
+
+pub returns-clause-reads_up_to : goal.returns-clause-reads_up_to
+returns-clause-reads_up_to c w book is bounded n =
+    let plan = c.args.plan in
+    let most = plan_reads w plan.source (lesser (Some n) plan.limit) in
+    subst (λ (r : RecheckView PlanCandidates). ReadsUpTo source.ghosts.leaves source.ghosts.pays r (Some w.folder) book (Some n) most) (sym c.new.ensures)
+    (subst
+    (λ (s : PlanCandidates). ReadsUpTo source.ghosts.leaves source.ghosts.pays (record { candidates = s; filter = c.plan.inside.filter; rows_left = c.plan.inside.limit; checked = 0 }) (Some w.folder) book (Some n) most)
+    (sym c.new-candidates.ensures)
+    (subst
+    (λ (p : PlanView). ReadsUpTo source.ghosts.leaves source.ghosts.pays
+    (record { candidates = record { alloc = c.plan.inside.alloc; view = c.args.view; pending = Some (record { types = p.types; source = p.source }); source = None }; filter = p.conditions; rows_left = p.limit; checked = 0 }) (Some w.folder) book (Some n) most)
+    (sym c.plan.view_is) (new_reads w plan c.args.view book is (Some n) bounded)))

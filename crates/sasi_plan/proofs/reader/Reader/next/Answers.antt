@@ -4,7 +4,7 @@ use Rattle.sasi_model.specs.Conditions.{Condition}
 use Rattle.sasi_ranges.proofs.Calling.{streams_nothing}
 use Rattle.sasi_recheck.specs.Sources.{GivesPrintable}
 use Rattle.sasi_plan.specs.contracts.plan_candidates.PlanCandidatesCandidates.TheImpl as source
-use Rattle.sasi_plan.specs.Answers.{ReadsLeft, RowsLeft}
+use Rattle.sasi_plan.specs.Answers.{ReadsLeft, ReadsUpTo, RowsLeft}
 use Rattle.sasi_plan.specs.Faults.{IsPickedOf}
 use Rattle.sasi_plan.specs.Lacking.{first_lacked}
 use Rattle.sasi_plan.proofs.LackingLaws.{found_lacks, none_lacks}
@@ -37,6 +37,9 @@ returns-in-Some-clause-lacks g c class lacks = (c.in-Some.class, refl)
 
 pub returns-in-Some-clause-reads : goal.returns-in-Some-clause-reads
 returns-in-Some-clause-reads g c most left = omega arith
+
+pub returns-in-Some-clause-reads_up_to : goal.returns-in-Some-clause-reads_up_to
+returns-in-Some-clause-reads_up_to g c n most left = omega arith
 
 pub returns-in-Some-clause-read : goal.returns-in-Some-clause-read
 returns-in-Some-clause-read g c = streams_nothing _ _ (source.ghosts.opens c.args.self.now.rows.candidates) (g.H.Host.view c.args.host.now) c.requires.read.agrees
@@ -92,6 +95,14 @@ returns-in-None-clause-reads g c most left =
     let v = g.H.Host.view n.new.host in
     spends_picked c.args.self.now.picked (ReadsLeft source.ghosts.leaves source.ghosts.pays n.new.self.rows v.files c.args.maps.now) most u.reads v.reads n.result c.picked_row.result
     (subst (λ (p : Picked). IsPickedOf p n.result c.picked_row.result) n.ensures.picked c.picked_row.ensures) (n.ensures.reads most left)
+
+pub returns-in-None-clause-reads_up_to : goal.returns-in-None-clause-reads_up_to
+returns-in-None-clause-reads_up_to g c n most left =
+    let m = c.next_partition-found in
+    let u = g.H.Host.view c.args.host.now in
+    let v = g.H.Host.view m.new.host in
+    spends_picked c.args.self.now.picked (ReadsUpTo source.ghosts.leaves source.ghosts.pays m.new.self.rows v.files c.args.maps.now (Some n)) most u.reads v.reads m.result c.picked_row.result
+    (subst (λ (p : Picked). IsPickedOf p m.result c.picked_row.result) m.ensures.picked c.picked_row.ensures) (m.ensures.reads_up_to n most left)
 
 pub returns-in-None-clause-ready : goal.returns-in-None-clause-ready
 returns-in-None-clause-ready g c =
