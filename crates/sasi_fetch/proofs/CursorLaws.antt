@@ -1,5 +1,5 @@
 -- What is kept of a cursor.
-use Rattle.std.proofs.Common.{◌≡◌, ℕ, true, List, Option, IsSome}
+use Rattle.std.proofs.Common.{◌≡◌, ℕ, true, List, Option, None, IsSome}
 use Rattle.sasi_types.specs.declared.column.ColumnType.{ColumnType}
 use Rattle.sasi_host.specs.declared.name.FileName.{FileName}
 use Rattle.sasi_host.specs.Names.{Folder}
@@ -11,7 +11,7 @@ use Rattle.sasi_memindex.specs.Growth.{IsGrown}
 use Rattle.sasi_recheck.specs.Sources.{Candidate}
 use Rattle.sasi_sources.specs.Maps.{IsOneOf}
 use Rattle.sasi_engine.specs.Plans.{is_file_of, map_numbers}
-use Rattle.sasi_plan.specs.Answers.{ReadsLeft, RowsLeft}
+use Rattle.sasi_plan.specs.Answers.{ReadsLeft, ReadsUpTo, RowsLeft}
 use Rattle.sasi_plan.specs.contracts.plan_candidates.PlanCandidatesCandidates.TheImpl as source
 use Rattle.sasi_plan.specs.contracts.plan_candidates.PlanCandidatesCandidates.TheImpl.Laws as law
 use Rattle.sasi_fetch.specs.Cursors.{IsReadable, view_of}
@@ -42,6 +42,10 @@ module _ (types : List ColumnType) (old new : Option Folder) (was now : Book) (c
   pub still_left : (rows : List (List ℕ × Partition)) → RowsLeft source.leaves-value.it c.reader.rows old was rows → RowsLeft source.leaves-value.it c.reader.rows new now rows
   still_left rows left = (left.0, kept.1 left.0 left.1, left.2)
 
-  -- **What it still costs stays the same too.**
+  -- **What it still costs stays the same too,** up to the last of the rows that are asked for,
+  pub still_reads_up_to : (asked : Option ℕ) (most : ℕ) → ReadsUpTo source.leaves-value.it source.pays-value.it c.reader.rows old was asked most → ReadsUpTo source.leaves-value.it source.pays-value.it c.reader.rows new now asked most
+  still_reads_up_to asked most left = (left.0, left.1, left.2, kept.1 left.0 left.3, kept.2 left.1 left.2 left.4, left.5)
+
+  -- and in all.
   pub still_reads : (most : ℕ) → ReadsLeft source.leaves-value.it source.pays-value.it c.reader.rows old was most → ReadsLeft source.leaves-value.it source.pays-value.it c.reader.rows new now most
-  still_reads most left = (left.0, left.1, left.2, kept.1 left.0 left.3, kept.2 left.1 left.2 left.4, left.5)
+  still_reads most left = still_reads_up_to None most left

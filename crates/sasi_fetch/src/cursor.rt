@@ -1,5 +1,5 @@
 // Cursors.
-ghost use Rattle.std.specs.Prelude.{◌≡◌, ℕ, List, Option, Some, true, IfErr, OnOk, map};
+ghost use Rattle.std.specs.Prelude.{◌≡◌, ◌+◌, ℕ, List, Option, Some, true, IfErr, OnOk, map};
 ghost use Rattle.sasi_types.specs.declared.column.ColumnType.{ColumnType};
 ghost use Rattle.sasi_host.specs.declared.damage.Damage.{Damage};
 ghost use Rattle.sasi_host.specs.declared.name.FileName.{FileName};
@@ -20,7 +20,7 @@ ghost use Rattle.sasi_scan.specs.Scanning.{ScanCauses};
 ghost use Rattle.sasi_sources.specs.KeyCandidates.{HasKeyType};
 ghost use Rattle.sasi_engine.specs.HitCandidates.{PlanWorld};
 ghost use Rattle.sasi_engine.specs.Plans.{is_file_of, map_numbers};
-ghost use Rattle.sasi_plan.specs.Answers.{ReadsLeft, RowsLeft, row_of};
+ghost use Rattle.sasi_plan.specs.Answers.{ReadsLeft, ReadsUpTo, RowsLeft, lesser, row_of};
 ghost use Rattle.sasi_plan.specs.Reading.{IsBounded, IsReadIn, PendingReady, PendingShows, plan_reads};
 ghost use Rattle.sasi_fetch.specs.Cursors.{IsReadable};
 ghost use Rattle.sasi_fetch.specs.Printing.{PrintsAtMost, PrintsFirst};
@@ -69,6 +69,9 @@ impl Cursor {
         // All fetches together take no more reads than a SELECT.
         ensures reads { (w : PlanWorld) (book : Book) → IsReadIn w plan view book → IsBounded w plan.source
             → ReadsLeft ⟦<PlanCandidates as Candidates>⟧.leaves ⟦<PlanCandidates as Candidates>⟧.pays result.reader.rows (Some w.folder) book (plan_reads w plan.source plan.limit) }
+        // Fetches of n rows together take no more than a SELECT with LIMIT n.
+        ensures reads_up_to { (w : PlanWorld) (book : Book) → IsReadIn w plan view book → IsBounded w plan.source
+            → (n : ℕ) → ReadsUpTo ⟦<PlanCandidates as Candidates>⟧.leaves ⟦<PlanCandidates as Candidates>⟧.pays result.reader.rows (Some w.folder) book (Some n) (plan_reads w plan.source (lesser (Some n) plan.limit)) }
         ensures readable { (files : Option Folder) (book : Book) → PendingReady plan.source view book → HasKeyType plan.types (views_numbered book (map_numbers view)) plan.picked.key → IsReadable plan.types files book result }
     {
         let pages = if plan.asks_indexes() {
@@ -101,6 +104,9 @@ impl Cursor {
         // What it reads, and what is left to be read, take together no more than that took, also where it fails.
         ensures reads { (reads : ℕ) → ReadsLeft ⟦<PlanCandidates as Candidates>⟧.leaves ⟦<PlanCandidates as Candidates>⟧.pays self.old.reader.rows (H.view host.old).files maps.now reads
             → Spends (ReadsLeft ⟦<PlanCandidates as Candidates>⟧.leaves ⟦<PlanCandidates as Candidates>⟧.pays self.new.reader.rows (H.view host.new).files maps.now) reads (H.view host.old).reads (H.view host.new).reads result }
+        // It reads ahead of no row: it takes what so many rows do, and leaves what the rows after them take.
+        ensures reads_up_to { (n reads : ℕ) → ReadsUpTo ⟦<PlanCandidates as Candidates>⟧.leaves ⟦<PlanCandidates as Candidates>⟧.pays self.old.reader.rows (H.view host.old).files maps.now (Some (most + n)) reads
+            → Spends (ReadsUpTo ⟦<PlanCandidates as Candidates>⟧.leaves ⟦<PlanCandidates as Candidates>⟧.pays self.new.reader.rows (H.view host.new).files maps.now (Some n)) reads (H.view host.old).reads (H.view host.new).reads result }
         ensures readable { (types : List ColumnType) → IsReadable types (H.view host.old).files maps.now self.old → OnOk result (IsReadable types (H.view host.new).files maps.now self.new) }
         // Damage is reported only if the files of the view show it, and never where they have what is left.
         ensures damaged { (types : List ColumnType) → IsReadable types (H.view host.old).files maps.now self.old → IfErr result (OnDamage (PendingShows types self.old.reader.rows.candidates.view (H.view host.old).files)) }
@@ -147,6 +153,8 @@ fn fetch_by<H: Host, P: PageReader>(
     ensures few { OnOk result (PrintsAtMost cursor.old.reader.picked most reply.old reply.new) }
     ensures reads { (reads : ℕ) → ReadsLeft ⟦<PlanCandidates as Candidates>⟧.leaves ⟦<PlanCandidates as Candidates>⟧.pays cursor.old.reader.rows (H.view host.old).files maps.now reads
         → Spends (ReadsLeft ⟦<PlanCandidates as Candidates>⟧.leaves ⟦<PlanCandidates as Candidates>⟧.pays cursor.new.reader.rows (H.view host.new).files maps.now) reads (H.view host.old).reads (H.view host.new).reads result }
+    ensures reads_up_to { (n reads : ℕ) → ReadsUpTo ⟦<PlanCandidates as Candidates>⟧.leaves ⟦<PlanCandidates as Candidates>⟧.pays cursor.old.reader.rows (H.view host.old).files maps.now (Some (most + n)) reads
+        → Spends (ReadsUpTo ⟦<PlanCandidates as Candidates>⟧.leaves ⟦<PlanCandidates as Candidates>⟧.pays cursor.new.reader.rows (H.view host.new).files maps.now (Some n)) reads (H.view host.old).reads (H.view host.new).reads result }
     ensures readable { (types : List ColumnType) → IsReadable types (H.view host.old).files maps.now cursor.old → OnOk result (IsReadable types (H.view host.new).files maps.now cursor.new) }
     ensures damaged { (types : List ColumnType) → IsReadable types (H.view host.old).files maps.now cursor.old → IfErr result (OnDamage (PendingShows types cursor.old.reader.rows.candidates.view (H.view host.old).files)) }
     ensures undamaged { IfErr result (OnDamage (λ _. (rows : List (List ℕ × SpecPartition)) → RowsLeft ⟦<PlanCandidates as Candidates>⟧.leaves cursor.old.reader.rows (H.view host.old).files maps.now rows → ⊥)) }

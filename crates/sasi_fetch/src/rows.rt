@@ -1,5 +1,5 @@
 // The rows of a reader, as they are printed.
-ghost use Rattle.std.specs.Prelude.{◌≡◌, ◌+◌, ◌++◌, ◌≤◌, ℕ, List, Option, IfErr, IfOk, OnOk, false, map};
+ghost use Rattle.std.specs.Prelude.{◌≡◌, ◌+◌, ◌++◌, ◌≤◌, ℕ, suc, List, Option, Some, IfErr, IfOk, OnOk, false, map};
 ghost use Rattle.sasi_host.specs.declared.damage.Damage.{Damage};
 ghost use Rattle.sasi_host.specs.Names.{Folder};
 ghost use Rattle.sasi_host.specs.Damages.{OnDamage};
@@ -8,7 +8,7 @@ ghost use Rattle.sasi_model.specs.Cells.{Partition as SpecPartition};
 ghost use Rattle.sasi_ranges.specs.StreamCalls.{CanStream, HasStreamed, Spends, StreamFaults};
 ghost use Rattle.sasi_recheck.specs.Rows.{KnowsWhere};
 ghost use Rattle.sasi_scan.specs.Scanning.{ScanCauses};
-ghost use Rattle.sasi_plan.specs.Answers.{CountsTo, ReadsLeft, RowsLeft};
+ghost use Rattle.sasi_plan.specs.Answers.{CountsTo, ReadsLeft, ReadsUpTo, RowsLeft};
 ghost use Rattle.sasi_fetch.specs.Printing.{KnowsAfter, PrintsAtMost, PrintsFirst, PrintsNext, picked_lines};
 ghost use Rattle.sasi_fetch.specs.declared.rows.RowsAfter.TheVariants.{Nothing};
 
@@ -87,6 +87,9 @@ pub(crate) fn print_first<H: Host, P: PageReader>(
     // What it reads, and what is left to be read, take together no more than that took, also where it fails.
     ensures reads { (reads : ℕ) → ReadsLeft ⟦<PlanCandidates as Candidates>⟧.leaves ⟦<PlanCandidates as Candidates>⟧.pays reader.old.rows (H.view host.old).files maps.now reads
         → Spends (ReadsLeft ⟦<PlanCandidates as Candidates>⟧.leaves ⟦<PlanCandidates as Candidates>⟧.pays reader.new.rows (H.view host.new).files maps.now) reads (H.view host.old).reads (H.view host.new).reads result }
+    // It reads ahead of no row: it takes what so many rows do, and leaves what the rows after them take.
+    ensures reads_up_to { (n reads : ℕ) → ReadsUpTo ⟦<PlanCandidates as Candidates>⟧.leaves ⟦<PlanCandidates as Candidates>⟧.pays reader.old.rows (H.view host.old).files maps.now (Some (most + n)) reads
+        → Spends (ReadsUpTo ⟦<PlanCandidates as Candidates>⟧.leaves ⟦<PlanCandidates as Candidates>⟧.pays reader.new.rows (H.view host.new).files maps.now (Some n)) reads (H.view host.old).reads (H.view host.new).reads result }
     ensures ready { OnOk result (⟦<PlanCandidates as Candidates>⟧.ready reader.new.rows.candidates (H.view host.new).files maps.now) }
     ensures prints { OnOk result (⟦<PlanCandidates as Candidates>⟧.prints reader.new.rows.candidates (H.view host.new).files maps.now reader.old.picked.key) }
     ensures uses { (number : ℕ) → ⟦<PlanCandidates as Candidates>⟧.uses reader.new.rows.candidates number → ⟦<PlanCandidates as Candidates>⟧.uses reader.old.rows.candidates number }
@@ -130,6 +133,8 @@ fn print_next<H: Host, P: PageReader>(
     ensures counted { (count : ℕ) → CountsTo ⟦<PlanCandidates as Candidates>⟧.leaves reader.old.rows (H.view host.old).files maps.now count → IfOk result (λ printed. printed ≡ false → reader.new.rows.checked ≡ count) }
     ensures reads { (most : ℕ) → ReadsLeft ⟦<PlanCandidates as Candidates>⟧.leaves ⟦<PlanCandidates as Candidates>⟧.pays reader.old.rows (H.view host.old).files maps.now most
         → Spends (ReadsLeft ⟦<PlanCandidates as Candidates>⟧.leaves ⟦<PlanCandidates as Candidates>⟧.pays reader.new.rows (H.view host.new).files maps.now) most (H.view host.old).reads (H.view host.new).reads result }
+    ensures reads_up_to { (n most : ℕ) → ReadsUpTo ⟦<PlanCandidates as Candidates>⟧.leaves ⟦<PlanCandidates as Candidates>⟧.pays reader.old.rows (H.view host.old).files maps.now (Some (suc n)) most
+        → Spends (ReadsUpTo ⟦<PlanCandidates as Candidates>⟧.leaves ⟦<PlanCandidates as Candidates>⟧.pays reader.new.rows (H.view host.new).files maps.now (Some n)) most (H.view host.old).reads (H.view host.new).reads result }
     ensures ready { OnOk result (⟦<PlanCandidates as Candidates>⟧.ready reader.new.rows.candidates (H.view host.new).files maps.now) }
     ensures prints { OnOk result (⟦<PlanCandidates as Candidates>⟧.prints reader.new.rows.candidates (H.view host.new).files maps.now reader.old.picked.key) }
     ensures uses { (number : ℕ) → ⟦<PlanCandidates as Candidates>⟧.uses reader.new.rows.candidates number → ⟦<PlanCandidates as Candidates>⟧.uses reader.old.rows.candidates number }

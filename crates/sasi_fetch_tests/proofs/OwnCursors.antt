@@ -31,7 +31,7 @@ use Rattle.sasi_plan_tests.specs.Fixture.{HasMaps, IsOwnPart, own_maps}
 use Rattle.sasi_plan_tests.proofs.MapLaws.{maps_stored, own_file}
 use Rattle.sasi_fetch.specs.declared.cursor.Cursor.{Cursor}
 use Rattle.sasi_fetch.specs.Cursors.{view_of}
-use Rattle.sasi_fetch.proofs.CursorLaws.{StaysInView, still_left, still_readable, still_reads}
+use Rattle.sasi_fetch.proofs.CursorLaws.{StaysInView, still_left, still_readable, still_reads, still_reads_up_to}
 use Rattle.sasi_fetch_tests.specs.Fetching.{IsOwnCursor, IsOwnPlan, StillLeaves}
 
 -- what is there stays
@@ -93,4 +93,8 @@ module _ (old new : Option Folder) (was now : Book) (c : Cursor) (m : MemtableVi
 
   -- **with the same rows left, at the same cost.**
   pub own_left : StillLeaves old new was now c
-  own_left = record { rows = still_left is.types old new was now c is.readable stays; reads = still_reads is.types old new was now c is.readable stays }
+  own_left = record {
+    rows = still_left is.types old new was now c is.readable stays;
+    reads = still_reads is.types old new was now c is.readable stays;
+    reads_up_to = still_reads_up_to is.types old new was now c is.readable stays;
+  }

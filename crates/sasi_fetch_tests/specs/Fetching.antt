@@ -8,7 +8,7 @@ use Rattle.sasi_host.specs.Names.{Folder}
 use Rattle.sasi_memindex.specs.Book.{Book}
 use Rattle.sasi_model.specs.Cells.{Partition}
 use Rattle.sasi_recheck.specs.Rows.{KnowsWhere}
-use Rattle.sasi_plan.specs.Answers.{ReadsLeft, RowsLeft}
+use Rattle.sasi_plan.specs.Answers.{ReadsLeft, ReadsUpTo, RowsLeft}
 use Rattle.sasi_plan.specs.contracts.plan_candidates.PlanCandidatesCandidates.TheImpl as source
 use Rattle.sasi_plan.specs.Plans.{PlanView}
 use Rattle.sasi_plan_tests.specs.Fixture.{IsOwnPart, IsPlanOn}
@@ -28,7 +28,8 @@ pub record IsOwnCursor (files : Option Folder) (book : Book) (c : Cursor) : Type
   pub own : AllByRecursion IsOwnPart (view_of c)
   pub known : (classes : List Class) → KnowsWhere classes c.reader.rows.filter
 
--- it has the same rows left, and they cost no more
+-- it has the same rows left, and they cost no more, in all and up to the last of those that are asked for
 pub record StillLeaves (old new : Option Folder) (was now : Book) (c : Cursor) : Type 0 where
   pub rows : (rows : List (List ℕ × Partition)) → RowsLeft source.leaves-value.it c.reader.rows old was rows → RowsLeft source.leaves-value.it c.reader.rows new now rows
   pub reads : (most : ℕ) → ReadsLeft source.leaves-value.it source.pays-value.it c.reader.rows old was most → ReadsLeft source.leaves-value.it source.pays-value.it c.reader.rows new now most
+  pub reads_up_to : (asked : Option ℕ) (most : ℕ) → ReadsUpTo source.leaves-value.it source.pays-value.it c.reader.rows old was asked most → ReadsUpTo source.leaves-value.it source.pays-value.it c.reader.rows new now asked most

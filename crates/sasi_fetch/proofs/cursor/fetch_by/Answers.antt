@@ -1,11 +1,11 @@
-use Rattle.std.proofs.Common.{◌≡◌, List, true, subst, sym}
+use Rattle.std.proofs.Common.{◌≡◌, ◌+◌, List, Some, true, subst, sym}
 use Rattle.std.proofs.lemmas.Result.{err_from_is_err_and}
 use Rattle.sasi_cells.specs.declared.picked.Picked.{Picked}
 use Rattle.sasi_scan.proofs.Costs.{causes_of_fault, damage_as}
 use Rattle.sasi_views.specs.declared.part.Part.{Part}
 use Rattle.sasi_sources.specs.Maps.{IsOneOf}
 use Rattle.sasi_engine.specs.Plans.{is_file_of, map_numbers}
-use Rattle.sasi_plan.specs.Answers.{RowsLeft}
+use Rattle.sasi_plan.specs.Answers.{ReadsUpTo, RowsLeft}
 use Rattle.sasi_plan.specs.Reading.{PendingShows}
 use Rattle.sasi_plan.specs.contracts.plan_candidates.PlanCandidatesCandidates.TheImpl as source
 use Rattle.sasi_fetch.specs.Printing.{PrintsAtMost, PrintsFirst}
@@ -31,6 +31,14 @@ pub returns-in_err-print_first-clause-reads : goal.returns-in_err-print_first-cl
 returns-in_err-print_first-clause-reads g c reads left =
     let q = err_from_is_err_and c.from_residual.result c.from_residual.ensures.1 in
     rw q.1 (c.in_err-print_first.ensures.reads reads left)
+
+pub returns-in_err-print_first-clause-reads_up_to : goal.returns-in_err-print_first-clause-reads_up_to
+returns-in_err-print_first-clause-reads_up_to g c n reads left =
+    let v = g.H.Host.view c.args.host.now in
+    let r = c.args.cursor.now.reader in
+    let q = err_from_is_err_and c.from_residual.result c.from_residual.ensures.1 in
+    rw q.1 (c.in_err-print_first.ensures.reads_up_to n reads
+    (subst (λ m. ReadsUpTo source.leaves-value.it source.pays-value.it r.rows v.files c.args.maps.now (Some (m + n)) reads) (sym c.from.ensures) left))
 
 pub returns-in_err-print_first-clause-damaged : goal.returns-in_err-print_first-clause-damaged
 returns-in_err-print_first-clause-damaged g c types is =
@@ -67,6 +75,12 @@ returns-clause-few g c = subst (λ n. PrintsAtMost c.args.cursor.now.reader.pick
 
 pub returns-clause-reads : goal.returns-clause-reads
 returns-clause-reads g c reads left = c.in_ok-print_first.ensures.reads reads left
+
+pub returns-clause-reads_up_to : goal.returns-clause-reads_up_to
+returns-clause-reads_up_to g c n reads left =
+    let v = g.H.Host.view c.args.host.now in
+    let r = c.args.cursor.now.reader in
+    c.in_ok-print_first.ensures.reads_up_to n reads (subst (λ m. ReadsUpTo source.leaves-value.it source.pays-value.it r.rows v.files c.args.maps.now (Some (m + n)) reads) (sym c.from.ensures) left)
 
 pub returns-clause-readable : goal.returns-clause-readable
 returns-clause-readable g c types is =

@@ -1,4 +1,4 @@
-use Rattle.std.proofs.Common.{List, map, Bool, Err, true, false, refl, sym, subst, ◌∙◌, arith}
+use Rattle.std.proofs.Common.{◌+◌, suc, List, map, Bool, Err, true, false, refl, sym, subst, ◌∙◌, arith}
 use Rattle.std.proofs.lemmas.Result.{err_from_is_err_and}
 use Rattle.sasi_model.specs.Conditions.{Condition}
 use Rattle.sasi_cells.specs.declared.picked.Picked.{Picked}
@@ -7,6 +7,7 @@ use Rattle.sasi_recheck.specs.Rows.{KnowsWhere}
 use Rattle.sasi_ranges.proofs.Calling.{can_still, fails_nothing, faults_ok, faults_then, streamed_then, streams_nothing}
 use Rattle.sasi_scan.proofs.Costs.{causes_memory, causes_of_fault, causes_ok, of_reads}
 use Rattle.sasi_plan.specs.Answers.{RowsLeft}
+use Rattle.sasi_plan.proofs.ReaderLaws.{fewer_reads}
 use Rattle.sasi_plan.specs.contracts.plan_candidates.PlanCandidatesCandidates.TheImpl as source
 use Rattle.sasi_fetch.specs.Printing.{PrintsNext}
 use Rattle.sasi_fetch.proofs.ReadRows.{ending_few, ending_knows, ending_prints, printing_begins, printing_more, stopping_few, stopping_knows, stopping_prints}
@@ -25,6 +26,7 @@ loop-row-init g c =
       printed = printing_begins c.args.reader.now.picked _ c.args.reply.now;
       counts = λ count is. is;
       reads = λ most left. (most, left, omega arith);
+      up_to = λ n m most within left. (most, fewer_reads source.leaves-value.it source.pays-value.it c.args.reader.now.rows v.files c.args.maps.now n m most (omega (arith, within)) left, omega arith);
       uses = λ number used. used;
       shows = λ files damage shown. shown;
       kinds = refl;
@@ -54,6 +56,13 @@ pub returns-in_err-printed-clause-reads : goal.returns-in_err-printed-clause-rea
 returns-in_err-printed-clause-reads g c reads left =
     let so_far = c.loop-row.invariant.reads reads left in
     let one = c.in_err-printed.ensures.reads so_far.0 so_far.1 in
+    let q = err_from_is_err_and c.from_residual.result c.from_residual.ensures.1 in
+    rw q.1 (omega (arith, one, so_far.2))
+
+pub returns-in_err-printed-clause-reads_up_to : goal.returns-in_err-printed-clause-reads_up_to
+returns-in_err-printed-clause-reads_up_to g c n reads left =
+    let so_far = c.loop-row.invariant.up_to (suc n) (c.args.most + n) reads (omega (arith, c.loop-row-test.true)) left in
+    let one = c.in_err-printed.ensures.reads_up_to n so_far.0 so_far.1 in
     let q = err_from_is_err_and c.from_residual.result c.from_residual.ensures.1 in
     rw q.1 (omega (arith, one, so_far.2))
 
@@ -106,6 +115,13 @@ pub returns-in_err-count-clause-reads : goal.returns-in_err-count-clause-reads
 returns-in_err-count-clause-reads g c reads left =
     let so_far = c.loop-row.invariant.reads reads left in
     let one = c.in_ok-printed.ensures.reads so_far.0 so_far.1 in
+    let q = err_from_is_err_and c.from_residual-in_err-count.result c.from_residual-in_err-count.ensures.1 in
+    rw q.1 (omega (arith, one.2, so_far.2))
+
+pub returns-in_err-count-clause-reads_up_to : goal.returns-in_err-count-clause-reads_up_to
+returns-in_err-count-clause-reads_up_to g c n reads left =
+    let so_far = c.loop-row.invariant.up_to (suc n) (c.args.most + n) reads (omega (arith, c.loop-row-test.true)) left in
+    let one = c.in_ok-printed.ensures.reads_up_to n so_far.0 so_far.1 in
     let q = err_from_is_err_and c.from_residual-in_err-count.result c.from_residual-in_err-count.ensures.1 in
     rw q.1 (omega (arith, one.2, so_far.2))
 
@@ -177,6 +193,12 @@ returns-then-not-printed-clause-reads g c reads left =
     let one = c.in_ok-printed.ensures.reads so_far.0 so_far.1 in
     (one.0, one.1, omega (arith, one.2, so_far.2))
 
+pub returns-then-not-printed-clause-reads_up_to : goal.returns-then-not-printed-clause-reads_up_to
+returns-then-not-printed-clause-reads_up_to g c n reads left =
+    let so_far = c.loop-row.invariant.up_to (suc n) (c.args.most + n) reads (omega (arith, c.loop-row-test.true)) left in
+    let one = c.in_ok-printed.ensures.reads_up_to n so_far.0 so_far.1 in
+    (one.0, one.1, omega (arith, one.2, so_far.2))
+
 pub returns-then-not-printed-clause-ready : goal.returns-then-not-printed-clause-ready
 returns-then-not-printed-clause-ready g c = c.in_ok-printed.ensures.ready
 
@@ -234,6 +256,10 @@ loop-row-preserved g c =
           let so_far = on.reads most left in
           let one = c.in_ok-printed.ensures.reads so_far.0 so_far.1 in
           (one.0, one.1, omega (arith, one.2, so_far.2));
+      up_to = λ n m most within left.
+          let so_far = on.up_to (suc n) m most (omega (arith, within)) left in
+          let one = c.in_ok-printed.ensures.reads_up_to n so_far.0 so_far.1 in
+          (one.0, one.1, omega (arith, one.2, so_far.2));
       uses = λ number used. on.uses number (c.print_next.ensures.uses number used);
       shows = λ files damage shown. on.shows files damage (c.print_next.ensures.shows_less files damage shown);
       kinds = c.print_next.ensures.kinds ∙ on.kinds;
@@ -246,6 +272,12 @@ loop-row-preserved g c =
 pub returns-in_err-count-2-clause-reads : goal.returns-in_err-count-2-clause-reads
 returns-in_err-count-2-clause-reads g c reads left =
     let so_far = c.loop-row.invariant.reads reads left in
+    let q = err_from_is_err_and c.from_residual-in_err-count-2.result c.from_residual-in_err-count-2.ensures.1 in
+    rw q.1 (omega (arith, so_far.2))
+
+pub returns-in_err-count-2-clause-reads_up_to : goal.returns-in_err-count-2-clause-reads_up_to
+returns-in_err-count-2-clause-reads_up_to g c n reads left =
+    let so_far = c.loop-row.invariant.up_to n (c.args.most + n) reads (omega (arith, c.loop-row-test.false, c.loop-row.auto.row-end)) left in
     let q = err_from_is_err_and c.from_residual-in_err-count-2.result c.from_residual-in_err-count-2.ensures.1 in
     rw q.1 (omega (arith, so_far.2))
 
@@ -306,6 +338,9 @@ returns-clause-counted g c is count counts = cc
 
 pub returns-clause-reads : goal.returns-clause-reads
 returns-clause-reads g c reads left = c.loop-row.invariant.reads reads left
+
+pub returns-clause-reads_up_to : goal.returns-clause-reads_up_to
+returns-clause-reads_up_to g c n reads left = c.loop-row.invariant.up_to n (c.args.most + n) reads (omega (arith, c.loop-row-test.false, c.loop-row.auto.row-end)) left
 
 pub returns-clause-ready : goal.returns-clause-ready
 returns-clause-ready g c = c.loop-row.invariant.ready

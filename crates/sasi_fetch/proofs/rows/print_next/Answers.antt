@@ -13,6 +13,11 @@ returns-in_err-key-clause-reads g c most left =
     let p = err_from_is_err_and c.from_residual.result c.from_residual.ensures.1 in
     rw p.1 (c.in_err-key.ensures.reads most left)
 
+pub returns-in_err-key-clause-reads_up_to : goal.returns-in_err-key-clause-reads_up_to
+returns-in_err-key-clause-reads_up_to g c n most left =
+    let p = err_from_is_err_and c.from_residual.result c.from_residual.ensures.1 in
+    rw p.1 (c.in_err-key.ensures.reads_up_to n most left)
+
 pub returns-in_default-clause-row : goal.returns-in_default-clause-row
 returns-in_default-clause-row g c = record {
   found = None;
@@ -25,6 +30,12 @@ pub returns-in_err-picked_row-clause-reads : goal.returns-in_err-picked_row-clau
 returns-in_err-picked_row-clause-reads g c most left =
     let p = err_from_is_err_and c.from_residual-in_err-picked_row.result c.from_residual-in_err-picked_row.ensures.1 in
     let one = c.in_ok-key.ensures.reads most left in
+    rw p.1 (omega (arith, one.2))
+
+pub returns-in_err-picked_row-clause-reads_up_to : goal.returns-in_err-picked_row-clause-reads_up_to
+returns-in_err-picked_row-clause-reads_up_to g c n most left =
+    let p = err_from_is_err_and c.from_residual-in_err-picked_row.result c.from_residual-in_err-picked_row.ensures.1 in
+    let one = c.in_ok-key.ensures.reads_up_to n most left in
     rw p.1 (omega (arith, one.2))
 
 pub returns-clause-row : goal.returns-clause-row
