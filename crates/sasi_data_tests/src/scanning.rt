@@ -4,13 +4,13 @@ ghost use Rattle.sasi_host.specs.Memory.{host_view, memory_host};
 ghost use Rattle.sasi_data_tests.specs.Scan.{IsScanOf};
 ghost use Rattle.sasi_data_tests.specs.declared.fixture.TheConstants.{DATA};
 
-use crate::fixture::{DATA, write_bodies};
+use crate::fixture::{DATA, changed, host_of, write_bodies};
 use crate::reading::{find, open_whole, read_at};
 use sasi_cells::Partition;
 use sasi_dataread::{DataFile, PlacedKey, Walk};
 use sasi_datawrite::NoWatch;
-use sasi_host::{Direct, MemHost};
-use sasi_types::{Key, Token};
+use sasi_host::{Damage, Direct, FormatRule, MemHost, ReadFault, found};
+use sasi_types::{Key, Partitioner, Token};
 use std::alloc::Global;
 use std::process::Abort;
 
@@ -110,6 +110,83 @@ fn scan_reads_each_page_once(rt: HostRuntime) {
     assert!(rt; host.reads() == 7);
     drop(data);
     drop(host);
+}
+
+/// What a scan gives behind its first partition: whether there is one more, or the damage.
+fn second(
+    rt: &impl Abort,
+    alloc: Global,
+    host: &mut MemHost,
+    scan: &mut Walk,
+) -> Result<bool, Damage>
+    requires { IsScanOf (host_view (memory_host host.old)) scan.old DATA }
+{
+    let first = next(rt, alloc, host, scan);
+    drop(first);
+    assert!(rt; host.bytes(DATA).is_some());
+    match scan.next(alloc, host, &mut Direct) {
+        Err(ReadFault::Damaged(damage)) => Err(damage),
+        read => Ok(read.expect(rt, "read").is_some()),
+    }
+}
+
+/// The same of a scan, with these tokens, of a file of these bytes.
+fn second_in(
+    rt: &impl Abort,
+    alloc: Global,
+    bytes: &[u8],
+    tokens: Option<Partitioner>,
+) -> Result<bool, Damage> {
+    let mut host = host_of(rt, alloc, bytes);
+    let data = open_whole(rt, alloc, &mut host);
+    let scan = data.walk(alloc).expect(rt, "memory for a scan");
+    let mut scan = scan.with_tokens(tokens);
+    let read = second(rt, alloc, &mut host, &mut scan);
+    drop(data);
+    drop(host);
+    read
+}
+
+/// With this byte changed, a scan of the file gives this behind its first partition.
+fn check_second(
+    rt: &impl Abort,
+    alloc: Global,
+    offset: usize,
+    byte: u8,
+    second: Result<bool, Damage>,
+) {
+    let host = written(rt, alloc);
+    let whole = host.bytes(DATA).expect(rt, "a file");
+    let bytes = changed(rt, alloc, whole, offset, byte);
+    drop(host);
+    assert!(rt; second_in(rt, alloc, &bytes, None) == second, "byte {byte}");
+}
+
+// The second partition has the token of the first one. It stands at 41, and the last byte of its key, the letter b, at 55.
+#[test]
+fn partition_that_does_not_rise_is_damage(rt: HostRuntime) {
+    let same = found(DATA, 41, FormatRule::Order, &[0, 0, 0, 21, 0, 9, 0, 0]);
+    check_second(&rt, rt.alloc(), 55, b'a', Err(same));
+    check_second(&rt, rt.alloc(), 55, b'c', Ok(true));
+}
+
+/// A file in which the first pair of the key tree has the token 0, and leads to the letter c. The next one has 1, the token of both keys, and the letter b.
+fn falling(rt: &impl Abort, alloc: Global) -> Vec<u8> {
+    let host = written(rt, alloc);
+    let whole = host.bytes(DATA).expect(rt, "a file");
+    let stored = changed(rt, alloc, whole, 7531, 0);
+    drop(host);
+    changed(rt, alloc, &stored, 30, b'c')
+}
+
+// The tokens of the key tree rise, those of the keys are equal, and the keys fall.
+#[test]
+fn keys_that_fall_are_damage_under_a_partitioner(rt: HostRuntime) {
+    let alloc = rt.alloc();
+    let bytes = falling(&rt, alloc);
+    assert!(rt; second_in(&rt, alloc, &bytes, None) == Ok(true));
+    let falls = found(DATA, 41, FormatRule::Order, &[0, 0, 0, 21, 0, 9, 0, 0]);
+    assert!(rt; second_in(&rt, alloc, &bytes, Some(Partitioner::Lead8)) == Err(falls));
 }
 
 /// Whether the file has the key.

@@ -38,7 +38,7 @@ fn open(rt: &impl Abort, alloc: Global, host: &mut MemHost, maps: &Maps) -> Tabl
         parts: PartNumbers::new(alloc),
     };
     let types = list_of(rt, alloc, &TEXTS);
-    TableScan::open(alloc, host, from_ref(&file), &types, maps).expect(rt, "opened")
+    TableScan::open(alloc, host, from_ref(&file), &types, maps, None).expect(rt, "opened")
 }
 
 /// The partition has so many cells, the last of them written then.

@@ -2,6 +2,7 @@
 ghost use Rattle.std.specs.Prelude.{◌≡◌};
 ghost use Rattle.sasi_host.specs.Buffered.{IsBuffered};
 ghost use Rattle.sasi_host.specs.Memory.{host_view, memory_host};
+ghost use Rattle.sasi_tokentree.specs.Scans.{IsAtLast};
 ghost use Rattle.sasi_data_tests.specs.declared.tree_fixture.TheConstants.{FILE};
 
 use crate::fixture::changed;
@@ -46,8 +47,10 @@ fn two_leaves_lie_below_a_root(rt: HostRuntime) {
 fn next(rt: &impl Abort, host: &mut MemHost, reader: &mut Tree) -> Option<Pair>
     requires file { reader.old.buffered.file ≡ FILE }
     requires buffered { IsBuffered reader.old.buffered (host_view (memory_host host.old)).files }
+    requires at_last { IsAtLast reader.old (host_view (memory_host host.old)).files }
     ensures file { reader.new.buffered.file ≡ FILE }
     ensures buffered { IsBuffered reader.new.buffered (host_view (memory_host host.new)).files }
+    ensures at_last { IsAtLast reader.new (host_view (memory_host host.new)).files }
 {
     assert!(rt; host.bytes(FILE).is_some());
     reader.next(host, &mut Direct).expect(rt, "read")
@@ -258,6 +261,47 @@ fn damage_is_reported(rt: HostRuntime) {
     for (offset, byte, at, rule, seen, len) in CHANGES {
         check_changed(&rt, rt.alloc(), offset, byte, damage(at, rule, seen, len));
     }
+}
+
+/// What a scan of the tree gives behind its first pair: the next one, or the damage.
+fn second_pair(rt: &impl Abort, host: &mut MemHost, tree: TreeRef) -> Result<Option<Pair>, Damage> {
+    let mut reader = Tree::new(FILE, tree);
+    let first = next(rt, host, &mut reader);
+    assert!(rt; first == Some(nth_pair(0, 2)));
+    assert!(rt; host.bytes(FILE).is_some());
+    match reader.next(host, &mut Direct) {
+        Err(ReadFault::Damaged(damage)) => Err(damage),
+        found => Ok(found.expect(rt, "read")),
+    }
+}
+
+/// With this byte changed, a scan of the tree of two leaves gives this behind its first pair.
+fn check_second(
+    rt: &impl Abort,
+    alloc: Global,
+    offset: usize,
+    byte: u8,
+    second: Result<Option<Pair>, Damage>,
+) {
+    let (whole, tree) = tree_bytes(rt, alloc, 256);
+    let bytes = changed(rt, alloc, &whole, offset, byte);
+    let mut host = host_of(rt, alloc, &bytes);
+    let found = second_pair(rt, &mut host, tree);
+    drop(host);
+    assert!(rt; found == second, "byte {byte}");
+}
+
+// The first pair has the token 7 and the offset 1,000, and the second one the token 9 and the offset 1,001.
+#[test]
+fn pair_that_does_not_rise_is_damage(rt: HostRuntime) {
+    let low = damage(24, FormatRule::Order, [0, 0, 0, 0, 0, 0, 0, 6], 8);
+    check_second(&rt, rt.alloc(), 31, 6, Err(low));
+    let same = Pair {
+        token: 7,
+        place: 1001,
+    };
+    check_second(&rt, rt.alloc(), 31, 7, Ok(Some(same)));
+    check_second(&rt, rt.alloc(), 31, 9, Ok(Some(nth_pair(1, 2))));
 }
 
 #[test]

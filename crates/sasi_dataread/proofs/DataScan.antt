@@ -18,7 +18,9 @@ use Rattle.sasi_tokentree.specs.Format.{HasTree}
 use Rattle.sasi_host.proofs.Offsets.{at_ends}
 use Rattle.std.specs.Int.{to_be_bytes, w32}
 use Rattle.sasi_host.specs.Damages.{DamageShown}
-use Rattle.sasi_tokentree.specs.Damages.{ShowsTree, ShowsTreeBy, pair_offset, start}
+use Rattle.sasi_tokentree.specs.Damages.{ShowsPairs, ShowsPairsBy, ShowsTree, ShowsTreeBy, pair_offset, start}
+use Rattle.sasi_tokentree.specs.Damages.ShowsPairsBy.{of_tree}
+use Rattle.sasi_tokentree.proofs.Rising.{pairs_shown_more}
 use Rattle.sasi_tokentree.proofs.AfterRead.{tree_shown_more}
 use Rattle.sasi_tokentree.proofs.LeafPairs.{count_is, ends_within, tree_stands}
 use Rattle.sasi_host.proofs.DamageLaws.{shown_as}
@@ -92,9 +94,17 @@ no_false_offset v w opened before after pair (fault.Damaged damage) takes change
 pub tree_shown : (Alone : ℕ → Type 0) (v : View) (opened : OpenDataFile) (file : FileName) (tree : TreeRef) (f : ReadFault) → file ≡ opened.file → tree ≡ opened.tree →
     DamageShown v file (ShowsTreeBy Alone file tree) f → DamageShown v opened.file (ShowsData opened) f
 tree_shown Alone v opened file tree f file_is tree_is shown =
-    shown_as (ShowsTree opened.file opened.tree) (ShowsData opened) v opened.file f (λ bytes damage is shows. in_tree shows)
+    shown_as (ShowsTree opened.file opened.tree) (ShowsData opened) v opened.file f (λ bytes damage is shows. in_tree (of_tree shows))
     (tree_shown_more Alone (λ index. Unit {0}) v opened.file opened.tree f (λ bytes index is alone lt short. tt)
     (subst (λ (n : FileName). DamageShown v n (ShowsTreeBy Alone n opened.tree) f) file_is (subst (λ (t : TreeRef). DamageShown v file (ShowsTreeBy Alone file t) f) tree_is shown)))
+
+-- and of the order of its pairs
+pub pairs_shown : (These : ℕ → Type 0) (v : View) (opened : OpenDataFile) (file : FileName) (tree : TreeRef) (f : ReadFault) → file ≡ opened.file → tree ≡ opened.tree →
+    DamageShown v file (ShowsPairsBy These file tree) f → DamageShown v opened.file (ShowsData opened) f
+pairs_shown These v opened file tree f file_is tree_is shown =
+    shown_as (ShowsPairs opened.file opened.tree) (ShowsData opened) v opened.file f (λ bytes damage is shows. in_tree shows)
+    (pairs_shown_more These v opened.file opened.tree f
+    (subst (λ (n : FileName). DamageShown v n (ShowsPairsBy These n opened.tree) f) file_is (subst (λ (t : TreeRef). DamageShown v file (ShowsPairsBy These file t) f) tree_is shown)))
 
 pub entry_of : (v : View) (opened : OpenDataFile) (file : FileName) (tree : TreeRef) (passed : ℕ) (found : Option Pair) → file ≡ opened.file → tree ≡
     opened.tree → ReadsEntry v file tree passed found → ReadsEntry v opened.file opened.tree passed found

@@ -171,7 +171,7 @@ begins partitioner content token key passed next reads most count counts takes c
 
 -- the tree before its first pair
 abbrev pub begun : OpenDataFile → PairScan
-begun opened = record { buffered = record { file = opened.file; page = None; bytes = [] }; tree = opened.tree; passed = 0 }
+begun opened = record { buffered = record { file = opened.file; page = None; bytes = [] }; tree = opened.tree; passed = 0; last = None }
 
 pub first_causes : {T : Type 0} (v w : View) (opened : OpenDataFile) (tree : PairScan) (result : Result T ReadFault) → tree ≡ begun opened →
     ((most : ℕ) → tree.tree.pairs ≤ most → ReadCost (2 * height most tree.tree.pairs + 2) v w result)

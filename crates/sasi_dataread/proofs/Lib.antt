@@ -8,6 +8,7 @@ pub mod Bodies
 pub mod Footers
 pub mod Opening
 pub mod DataScan
+pub mod KeyOrder
 pub mod Looking
 pub mod Finding
 pub mod Gathering

@@ -12,11 +12,12 @@ use Rattle.sasi_body.specs.Body.{body_of}
 use Rattle.sasi_formats.specs.Failures.{HasOtherLength}
 use Rattle.sasi_formats.specs.Parts.{ShowsBrokenPart}
 use Rattle.sasi_framing.specs.Damages.{ShowsFraming}
-use Rattle.sasi_tokentree.specs.Damages.{ShowsTree, pair_offset}
+use Rattle.sasi_tokentree.specs.Damages.{ShowsPairs, pair_offset}
 use Rattle.sasi_tokentree.specs.Scans.{HasEntry}
 use Rattle.sasi_datawrite.specs.declared.footer.Footer.{Footer}
 use Rattle.sasi_dataread.specs.Opened.{OpenDataFile}
 use Rattle.sasi_dataread.specs.Bodies.{length_prefixed, IsLength, IsPartitionOffset}
+use Rattle.sasi_dataread.specs.KeyOrder.{ShowsKeyDisorder}
 use Rattle.sasi_dataread.specs.HeaderAndFooter.{HasHeaderAndFooter, data_framing}
 
 -- ---- the header and the footer
@@ -75,9 +76,10 @@ pub data ShowsPair (opened : OpenDataFile) (index place : ℕ) (bytes : Bytes) (
   leads_nowhere : LeadsNowhere opened index place damage → ShowsPair opened index place bytes damage
   in_partition : IsPartitionOffset opened.end place → ShowsPartition opened.types opened.end place opened.file bytes damage → ShowsPair opened index place bytes damage
 
--- the damage is that of the key tree, or of one of its pairs and the partition to which it leads
+-- the damage is that of the key tree or of the order of its pairs, of the order of two partitions to which they lead, or of one pair and the partition to which it leads
 pub data ShowsData (opened : OpenDataFile) (bytes : Bytes) (damage : Damage) : Type 0 where
-  in_tree : ShowsTree opened.file opened.tree bytes damage → ShowsData opened bytes damage
+  in_tree : ShowsPairs opened.file opened.tree bytes damage → ShowsData opened bytes damage
+  of_keys : ShowsKeyDisorder opened bytes damage → ShowsData opened bytes damage
   at_pair : (index : ℕ) (pair : Pair) → HasEntry bytes opened.tree index pair → ShowsPair opened index pair.place bytes damage → ShowsData opened bytes damage
 
 -- ---- a data file

@@ -1,6 +1,8 @@
 pub mod Opened
 pub mod Reads
 pub mod Bodies
+pub mod Tokens
+pub mod KeyOrder
 pub mod Damages
 pub mod HeaderAndFooter
 pub mod Scans

@@ -38,9 +38,9 @@ abbrev pub ScansPagesOnce : {T : Type 0} → View → View → DataScan → Data
 ScansPagesOnce a b old new result = (partitioner : Partitioner) (content : Content) (is : IsOpenOn a old.opened partitioner content) → KeysAreBytes content → IsSequential is.bytes content old
     → MatchResult result (λ _. ReadsEachPageOnce is.bytes content a.reads b.reads old new) (λ _. b.reads + progress old ≤ a.reads + 2 * file_pages is.bytes)
 
--- a scan by its parts
+-- a scan by its parts, whatever it gave last, and wherever its tokens come from
 abbrev pub scan_of : OpenDataFile → PairScan → Buffered → DataScan
-scan_of opened tree buffered = record { opened = opened; passed = tree.passed; pairs_buffered = tree.buffered; buffered = buffered }
+scan_of opened tree buffered = record { opened = opened; tokens = None; passed = tree.passed; pairs_buffered = tree.buffered; buffered = buffered; last_pair = tree.last; last = None }
 
 -- ---- laws
 

@@ -1,5 +1,5 @@
 // Reads a data file.
-ghost use Rattle.std.specs.Prelude.{◌≡◌, ◌+◌, ◌*◌, ◌/◌, ◌≤◌, ℕ, [], IfErr, IfOk, None, Some, length};
+ghost use Rattle.std.specs.Prelude.{◌≡◌, ◌+◌, ◌*◌, ◌/◌, ◌<◌, ◌≤◌, ℕ, [], IfErr, IfOk, None, Some, length};
 ghost use Rattle.sasi_types.specs.declared.partitioner.Partitioner.{Partitioner};
 ghost use Rattle.sasi_model.specs.Cells.{Partition as Part};
 ghost use Rattle.sasi_host.specs.declared.name.FileName.{FileName};
@@ -65,6 +65,8 @@ impl DataFile {
         requires read { CanRead (P.agrees pages.old) (H.view host.old) file }
         ensures ok { IfOk result (λ opened. (bytes : Bytes) (partitioner : Partitioner) (content : Content) → contents (H.view host.old) file ≡ Some bytes → IsDataFile partitioner types.now bytes content → IsOpenedAs opened partitioner content) }
         ensures header_and_footer { IfOk result (λ opened. (bytes : Bytes) → contents (H.view host.old) file ≡ Some bytes → HasHeaderAndFooter bytes (record { tree = opened.tree; max_timestamp = opened.max_timestamp; end = opened.end })) }
+        // In any file it has a partition.
+        ensures some { IfOk result (λ opened. 0 < opened.tree.pairs) }
         ensures file { IfOk result (λ opened. opened.file ≡ file) }
         ensures types { IfOk result (λ opened. opened.types ≡ types.now) }
         ensures damaged { IfErr result (DamageShown (H.view host.old) file (ShowsHeaderOrFooter file)) }
@@ -84,12 +86,12 @@ impl DataFile {
         })
     }
 
-    /// A scan of the partitions, from the first one on. It reads nothing yet.
+    /// A scan of the partitions, from the first one on, with the tokens of the key tree. It reads nothing yet.
     pub fn walk(&self, alloc: Global) -> Result<Walk, AllocError>
-        ensures { IfOk result (λ walk. walk ≡ record { opened = self.now; passed = 0; pairs_buffered = record { file = self.now.file; page = None; bytes = [] }; buffered = record { file = self.now.file; page = None; bytes = [] } }) }
+        ensures { IfOk result (λ walk. walk ≡ record { opened = self.now; tokens = None; passed = 0; pairs_buffered = record { file = self.now.file; page = None; bytes = [] }; buffered = record { file = self.now.file; page = None; bytes = [] }; last_pair = None; last = None }) }
     {
         let copy = self.copy(alloc)?;
-        Ok(Walk::new(copy))
+        Ok(Walk::new(alloc, copy))
     }
 
     fn copy(&self, alloc: Global) -> Result<DataFile, AllocError>
@@ -128,7 +130,7 @@ impl DataFile {
 
     /// A scan of the key tree, from tokens to offsets of partitions, before its first pair.
     pub fn tree(&self) -> Tree
-        ensures { result ≡ record { buffered = record { file = self.now.file; page = None; bytes = [] }; tree = self.now.tree; passed = 0 } }
+        ensures { result ≡ record { buffered = record { file = self.now.file; page = None; bytes = [] }; tree = self.now.tree; passed = 0; last = None } }
     {
         Tree::new(self.file, self.tree)
     }

@@ -1,5 +1,5 @@
 // Reads the header and the footer of a data file.
-ghost use Rattle.std.specs.Prelude.{◌≡◌, ◌≤◌, length, IfErr, IfOk, Some};
+ghost use Rattle.std.specs.Prelude.{◌≡◌, ◌<◌, ◌≤◌, length, IfErr, IfOk, Some};
 ghost use Rattle.sasi_host.specs.declared.name.FileName.{FileName};
 ghost use Rattle.sasi_host.specs.Names.{Bytes};
 ghost use Rattle.sasi_host.specs.View.{ReadCost, contents};
@@ -34,6 +34,7 @@ fn decode(file: FileName, size: u64, header: &[u8], footer: &[u8]) -> Result<Foo
     requires footer { length footer.now ≡ 40 }
     requires size { 40 ≤ size }
     ensures ok { IfOk result (λ numbers. (bytes : Bytes) → BeginsAndEndsWith size header.now footer.now bytes → HasHeaderAndFooter bytes numbers) }
+    ensures some { IfOk result (λ numbers. 0 < numbers.tree.pairs) }
     ensures damaged { IfErr result (λ damage. (bytes : Bytes) → BeginsAndEndsWith size header.now footer.now bytes → ShowsHeaderOrFooter file bytes damage) }
 {
     let at = size - FOOTER as u64;
@@ -52,6 +53,7 @@ pub fn read_footer<H: Host, P: PageReader>(
 ) -> Result<Footer, ReadFault>
     requires read { CanRead (P.agrees pages.old) (H.view host.old) file }
     ensures ok { IfOk result (λ numbers. (bytes : Bytes) → contents (H.view host.old) file ≡ Some bytes → HasHeaderAndFooter bytes numbers) }
+    ensures some { IfOk result (λ numbers. 0 < numbers.tree.pairs) }
     ensures damaged { IfErr result (DamageShown (H.view host.old) file (ShowsHeaderOrFooter file)) }
     ensures undamaged { IfErr result (NoFalseDataDamage (H.view host.old) file) }
     ensures read { HasRead (P.agrees pages.new) (P.covers pages.old) (P.covers pages.new) (H.view host.old) (H.view host.new) file }

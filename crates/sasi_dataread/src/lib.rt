@@ -7,6 +7,7 @@ mod end;
 mod file_bytes;
 mod find;
 mod footer;
+mod key_order;
 mod pair;
 mod partition;
 mod parts;

@@ -18,4 +18,5 @@ pub use fault::PairFault;
 pub use footer::Footer;
 pub use header::magic;
 pub use observer::{FlushObserver, NoWatch};
+pub use partition::put_partition;
 pub use writer::DataWriter;

@@ -39,8 +39,8 @@ pub fn write_partition<H: Host>(
     Ok(at + buffer.len() as u64)
 }
 
-// Encodes a partition into the buffer.
-fn put_partition(buffer: &mut Vec<u8>, key: &Key, part: &Partition) -> Result<(), AllocError>
+/// Encodes a partition into the buffer, which it overwrites.
+pub fn put_partition(buffer: &mut Vec<u8>, key: &Key, part: &Partition) -> Result<(), AllocError>
     requires { HasBody key.now part.now }
     ensures { OnOk result (buffer.new.items ≡ partition_bytes key.now part.now) }
 {

@@ -9,6 +9,7 @@ use Rattle.sasi_host.specs.declared.name.FileName.{FileName}
 use Rattle.sasi_host.specs.declared.name.Kind.TheVariants.{Data, Index}
 use Rattle.sasi_host.specs.Names.{Bytes, Folder, data_name, name_eq}
 use Rattle.sasi_manifest.specs.ListedFiles.{index_name}
+pub use Rattle.sasi_views.specs.Parts.{names_of}
 use Rattle.sasi_views.specs.declared.part.Part as view
 use Rattle.sasi_views.specs.declared.part.Part.TheVariants.{File, Map}
 use Rattle.sasi_ranges.specs.EachStream.{EachLeaves}
@@ -29,11 +30,6 @@ pub record IsPlanOf (folder : Folder) (partitioner : Partitioner) (asked : List 
   pub hits_are : map hits_in plan.parts.items ≡ hits_of asked 0 parts
 
 -- ---- files
-
--- the data file of a part, and its index files
-abbrev pub names_of : view.Part → List FileName
-names_of (File number indexes) = data_name number ∷ map (index_name number) indexes
-names_of (Map number) = []
 
 -- the file is one of those of the parts
 abbrev pub is_file_of : List view.Part → FileName → Bool

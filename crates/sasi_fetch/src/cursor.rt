@@ -127,6 +127,13 @@ impl Cursor {
         }
     }
 
+    /// The view.
+    pub fn view(&self) -> &View
+        ensures { result.now ≡ self.now.reader.rows.candidates.view }
+    {
+        self.reader.view()
+    }
+
     /// The view, to be given back.
     pub fn end(self) -> View
         ensures { result ≡ self.reader.rows.candidates.view }

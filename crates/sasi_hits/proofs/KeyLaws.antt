@@ -11,7 +11,6 @@ use Rattle.sasi_types.specs.DecoratedKey.{decorated_cmp}
 use Rattle.sasi_types.specs.declared.tree.Pair.{Pair}
 use Rattle.sasi_types.specs.declared.tree.TreeRef.{TreeRef}
 use Rattle.sasi_host.specs.declared.name.FileName.{FileName}
-use Rattle.sasi_host.specs.declared.damage.Damage.{Damage}
 use Rattle.sasi_host.specs.declared.fault.ReadFault.{ReadFault}
 use Rattle.sasi_host.specs.Names.{Bytes}
 use Rattle.sasi_host.specs.View.{ReadCost, View, contents}
@@ -21,8 +20,8 @@ use Rattle.sasi_host.specs.Buffered.{reached}
 use Rattle.sasi_host.proofs.ContentLaws.{contents_same}
 use Rattle.sasi_host.proofs.Offsets.{at_ends}
 use Rattle.sasi_host.proofs.Pages.{fresh_reaches}
-use Rattle.sasi_tokentree.specs.Damages.{ShowsTree, ShowsTreeBy, pair_offset, start}
-use Rattle.sasi_tokentree.specs.Damages.ShowsTreeBy.{in_entry, in_node}
+use Rattle.sasi_tokentree.specs.Damages.{ShowsPairs, ShowsPairsBy, pair_offset, start}
+use Rattle.sasi_tokentree.proofs.Rising.{shows_more}
 use Rattle.sasi_tokentree.specs.Format.{HasTree, IsBefore, entry}
 use Rattle.sasi_tokentree.specs.Reads.{NoFalseTreeDamage}
 use Rattle.sasi_tokentree.specs.Scans.{HasEntry, IsEntryBuffered, PairScan, PassesOne, ReadsEntry, ReadsNextPair, StepsToPair, entry_cost, header_read, read_from}
@@ -183,22 +182,18 @@ none_left_shown v scan r right =
     on_err (λ _. (bytes : Bytes) (pairs : List Pair) → contents v scan.buffered.file ≡ Some bytes → HasTree bytes scan.tree pairs → ⊥) (λ _. (left : List Pair) → ScanLeaves scan v.files left → ⊥) r
     (λ damage no left is. no is.bytes is.pairs is.reads is.tree) right
 
-shows_more : (Alone : ℕ → Type 0) (file : FileName) (tree : TreeRef) (bytes : Bytes) (damage : Damage) → ShowsTreeBy Alone file tree bytes damage → ShowsTree file tree bytes damage
-shows_more Alone file tree bytes damage (in_node shows) = in_node shows
-shows_more Alone file tree bytes damage (in_entry index alone lt ends) = in_entry index tt lt ends
-
 -- the faults of one call, by the scan with which the calls began
 pub call_faults : {T : Type 0} (Alone : ℕ → Type 0) (first scan : PairScan) (v w : View) (n : ℕ) (r : Result T ReadFault) → scan.buffered.file ≡ first.buffered.file → scan.tree ≡ first.tree → Changes Same v w → ReadCost n v w r
-    → IfErr r (DamageShown v scan.buffered.file (ShowsTreeBy Alone scan.buffered.file scan.tree)) → IfErr r (NoFalseTreeDamage v scan.buffered.file scan.tree)
-    → StreamFaults (ShowsIn first.buffered.file (ShowsTree first.buffered.file first.tree) v.files) (ShowsIn first.buffered.file (ShowsTree first.buffered.file first.tree) w.files) (ScanLeaves scan v.files) v w r
+    → IfErr r (DamageShown v scan.buffered.file (ShowsPairsBy Alone scan.buffered.file scan.tree)) → IfErr r (NoFalseTreeDamage v scan.buffered.file scan.tree)
+    → StreamFaults (ShowsIn first.buffered.file (ShowsPairs first.buffered.file first.tree) v.files) (ShowsIn first.buffered.file (ShowsPairs first.buffered.file first.tree) w.files) (ScanLeaves scan v.files) v w r
 call_faults Alone first scan v w n r file_is tree_is change causes damaged undamaged =
     let file = scan.buffered.file in
-    let own : StreamFaults (ShowsIn file (ShowsTree file scan.tree) v.files) (ShowsIn file (ShowsTree file scan.tree) w.files) (ScanLeaves scan v.files) v w r =
-    faults_of file (ShowsTree file scan.tree) (ScanLeaves scan v.files) v w n r change causes
-    (on_err (ShowsIn file (ShowsTreeBy Alone file scan.tree) v.files) (ShowsIn file (ShowsTree file scan.tree) v.files) r (λ damage is bytes reads. shows_more Alone file scan.tree bytes damage (is bytes reads)) damaged)
+    let own : StreamFaults (ShowsIn file (ShowsPairs file scan.tree) v.files) (ShowsIn file (ShowsPairs file scan.tree) w.files) (ScanLeaves scan v.files) v w r =
+    faults_of file (ShowsPairs file scan.tree) (ScanLeaves scan v.files) v w n r change causes
+    (on_err (ShowsIn file (ShowsPairsBy Alone file scan.tree) v.files) (ShowsIn file (ShowsPairs file scan.tree) v.files) r (λ damage is bytes reads. shows_more Alone file scan.tree bytes damage (is bytes reads)) damaged)
     (none_left_shown v scan r undamaged) in
-    subst (λ (t : TreeRef). StreamFaults (ShowsIn first.buffered.file (ShowsTree first.buffered.file t) v.files) (ShowsIn first.buffered.file (ShowsTree first.buffered.file t) w.files) (ScanLeaves scan v.files) v w r) tree_is
-    (subst (λ (n : FileName). StreamFaults (ShowsIn n (ShowsTree n scan.tree) v.files) (ShowsIn n (ShowsTree n scan.tree) w.files) (ScanLeaves scan v.files) v w r) file_is own)
+    subst (λ (t : TreeRef). StreamFaults (ShowsIn first.buffered.file (ShowsPairs first.buffered.file t) v.files) (ShowsIn first.buffered.file (ShowsPairs first.buffered.file t) w.files) (ScanLeaves scan v.files) v w r) tree_is
+    (subst (λ (n : FileName). StreamFaults (ShowsIn n (ShowsPairs n scan.tree) v.files) (ShowsIn n (ShowsPairs n scan.tree) w.files) (ScanLeaves scan v.files) v w r) file_is own)
 
 -- ---- as a stream
 

@@ -32,7 +32,7 @@ use Rattle.sasi_hits.proofs.CallLaws.{faults_of}
 
 -- a scan of the key tree before its first pair
 abbrev pub begun : OpenDataFile → PairScan
-begun opened = record { buffered = record { file = opened.file; page = None; bytes = [] }; tree = opened.tree; passed = 0 }
+begun opened = record { buffered = record { file = opened.file; page = None; bytes = [] }; tree = opened.tree; passed = 0; last = None }
 
 module _ (v w : View) (file : FileName) (types : List ColumnType) (opened : OpenDataFile) (change : Changes Same v w) (named : opened.file ≡ file) (typed : opened.types ≡ types) where
   now_reads : (bytes : Bytes) → contents v file ≡ Some bytes → contents w opened.file ≡ Some bytes
@@ -84,6 +84,7 @@ module _ (v w : View) (file : FileName) (types : List ColumnType) (opened : Open
   opened_ready has = record {
     named = named;
     buffered = nothing_buffered (begun opened).buffered w.files refl;
+    at_last = λ bytes reads. tt;
     footer = λ bytes reads. (record { tree = opened.tree; max_timestamp = opened.max_timestamp; end = opened.end }, has bytes (sym (contents_same v w file change) ∙ reads), refl);
   }
 

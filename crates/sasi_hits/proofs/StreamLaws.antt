@@ -12,8 +12,8 @@ use Rattle.sasi_host.specs.Disk.{Changes, Same}
 use Rattle.sasi_host.specs.PageReading.{HasReadOn}
 use Rattle.sasi_host.specs.View.{View}
 use Rattle.sasi_host.proofs.ContentLaws.{contents_same}
-use Rattle.sasi_tokentree.specs.Damages.{ShowsTree}
-use Rattle.sasi_tokentree.specs.Scans.{PairScan}
+use Rattle.sasi_tokentree.specs.Damages.{ShowsPairs}
+use Rattle.sasi_tokentree.specs.Scans.{IsAtLast, PairScan}
 use Rattle.sasi_datawrite.specs.declared.footer.Footer.{Footer}
 use Rattle.sasi_dataread.specs.HeaderAndFooter.{HasHeaderAndFooter}
 use Rattle.sasi_ranges.specs.declared.entry.Entry.{Entry}
@@ -48,10 +48,11 @@ spends_then Pays Later most u v w x y first second =
 -- ---- an open data file
 
 module _ (file : FileName) (scan after : PairScan) where
-  pub scans_on : (K : Option Folder → Type 0) (A B : FileName → Type 0) (v w : View) → after.tree ≡ scan.tree → HasReadOn K A B v w scan.buffered after.buffered → ScansKeys file scan v.files → ScansKeys file after w.files
-  scans_on K A B v w tree read is = record {
+  pub scans_on : (K : Option Folder → Type 0) (A B : FileName → Type 0) (v w : View) → after.tree ≡ scan.tree → HasReadOn K A B v w scan.buffered after.buffered → IsAtLast after w.files → ScansKeys file scan v.files → ScansKeys file after w.files
+  scans_on K A B v w tree read at_last is = record {
     named = read.file ∙ is.named;
     buffered = read.buffered;
+    at_last = at_last;
     footer = λ bytes reads.
         (let footer = is.footer bytes (sym (contents_same v w file read.changes) ∙ reads) in
         (footer.0, footer.1, tree ∙ footer.2));
@@ -59,11 +60,11 @@ module _ (file : FileName) (scan after : PairScan) where
 
   -- damage of its tree is damage of the file
   pub key_faults : {T L : Type 0} (Leaves : L → Type 0) (v w : View) (r : Result T ReadFault) → Changes Same v w → ScansKeys file scan v.files
-      → StreamFaults (ShowsIn scan.buffered.file (ShowsTree scan.buffered.file scan.tree) v.files) (ShowsIn scan.buffered.file (ShowsTree scan.buffered.file scan.tree) w.files) Leaves v w r
+      → StreamFaults (ShowsIn scan.buffered.file (ShowsPairs scan.buffered.file scan.tree) v.files) (ShowsIn scan.buffered.file (ShowsPairs scan.buffered.file scan.tree) w.files) Leaves v w r
       → StreamFaults (KeysShow file v.files) (KeysShow file w.files) Leaves v w r
   key_faults {T} {L} Leaves v w r change is one =
-      faults_shown file (ShowsTree file scan.tree) (ShowsKeyTree file) Leaves v w r change (λ damage shows bytes reads. tells damage bytes (is.footer bytes reads) (shows bytes reads))
-      (subst (λ (n : FileName). StreamFaults (ShowsIn n (ShowsTree n scan.tree) v.files) (ShowsIn n (ShowsTree n scan.tree) w.files) Leaves v w r) is.named one)
+      faults_shown file (ShowsPairs file scan.tree) (ShowsKeyTree file) Leaves v w r change (λ damage shows bytes reads. tells damage bytes (is.footer bytes reads) (shows bytes reads))
+      (subst (λ (n : FileName). StreamFaults (ShowsIn n (ShowsPairs n scan.tree) v.files) (ShowsIn n (ShowsPairs n scan.tree) w.files) Leaves v w r) is.named one)
     where
-      tells : (damage : Damage) (bytes : Bytes) → (numbers : Footer) × HasHeaderAndFooter bytes numbers × (scan.tree ≡ numbers.tree) → ShowsTree file scan.tree bytes damage → ShowsKeyTree file bytes damage
-      tells damage bytes footer shows = inside footer.0 footer.1 (subst (λ (t : TreeRef). ShowsTree file t bytes damage) footer.2 shows)
+      tells : (damage : Damage) (bytes : Bytes) → (numbers : Footer) × HasHeaderAndFooter bytes numbers × (scan.tree ≡ numbers.tree) → ShowsPairs file scan.tree bytes damage → ShowsKeyTree file bytes damage
+      tells damage bytes footer shows = inside footer.0 footer.1 (subst (λ (t : TreeRef). ShowsPairs file t bytes damage) footer.2 shows)

@@ -9,9 +9,9 @@ use Rattle.sasi_host.specs.declared.damage.Damage.{Damage}
 use Rattle.sasi_host.specs.Names.{Bytes, Folder}
 use Rattle.sasi_host.specs.Buffered.{IsBuffered, reached}
 use Rattle.sasi_host.specs.View.{contents_in}
-use Rattle.sasi_tokentree.specs.Damages.{ShowsTree}
+use Rattle.sasi_tokentree.specs.Damages.{ShowsPairs}
 use Rattle.sasi_tokentree.specs.Format.{HasTree}
-use Rattle.sasi_tokentree.specs.Scans.{PairScan, read_from}
+use Rattle.sasi_tokentree.specs.Scans.{IsAtLast, PairScan, read_from}
 use Rattle.sasi_datawrite.specs.declared.footer.Footer.{Footer}
 use Rattle.sasi_datawrite.specs.Files.{IsDataFile}
 use Rattle.sasi_datawrite.specs.Format.{Content, key_pairs}
@@ -34,7 +34,7 @@ pub record ReadsAsData (files : Option Folder) (file : FileName) (types : List C
 -- the damage is that of this data file: of its header or its footer, or of the key tree to which the footer leads
 pub data ShowsKeyTree (file : FileName) (bytes : Bytes) (damage : Damage) : Type 0 where
   outside : ShowsHeaderOrFooter file bytes damage → ShowsKeyTree file bytes damage
-  inside : (numbers : Footer) → HasHeaderAndFooter bytes numbers → ShowsTree file numbers.tree bytes damage → ShowsKeyTree file bytes damage
+  inside : (numbers : Footer) → HasHeaderAndFooter bytes numbers → ShowsPairs file numbers.tree bytes damage → ShowsKeyTree file bytes damage
 
 abbrev pub KeysShow : FileName → Option Folder → Damage → Type 0
 KeysShow file = ShowsIn file (ShowsKeyTree file)
@@ -86,10 +86,12 @@ KeysPay file types (Some scan) files most = (scan.buffered.file ≡ file) × Sca
 
 -- ---- an open file
 
--- the scan is one of the tree to which the footer leads, and its buffered page is one of the file, in any file
+-- the scan is one of the tree to which the footer leads, its buffered page is one of the file, and what it gave last is the last entry that it has
+-- passed, in any file
 pub record ScansKeys (file : FileName) (scan : PairScan) (files : Option Folder) : Type 0 where
   pub named : scan.buffered.file ≡ file
   pub buffered : IsBuffered scan.buffered files
+  pub at_last : IsAtLast scan files
   pub footer : (bytes : Bytes) → contents_in files file ≡ Some bytes → (numbers : Footer) × HasHeaderAndFooter bytes numbers × (scan.tree ≡ numbers.tree)
 
 abbrev pub KeysReady : FileName → Option PairScan → Option Folder → Type 0

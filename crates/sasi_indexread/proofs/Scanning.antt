@@ -18,11 +18,11 @@ use Rattle.sasi_host.specs.View.{View, contents}
 use Rattle.sasi_host.specs.Disk.{Changes, Same}
 use Rattle.sasi_host.proofs.DamageLaws.{shown_as, shown_before}
 use Rattle.sasi_terms.specs.declared.op.Op.{Op}
+use Rattle.sasi_tokentree.specs.Damages.{ShowsPairs}
 use Rattle.sasi_tokentree.specs.Format.{HasTree}
 use Rattle.sasi_tokentree.specs.Reads.{NoFalseTreeDamage}
 use Rattle.sasi_tokentree.proofs.AfterRead.{reads_still}
 use Rattle.sasi_treemerge.specs.declared.tree_source.TreeSource.{TreeSource}
-use Rattle.sasi_treemerge.specs.MergeDamages.{ShowsPairs}
 use Rattle.sasi_treemerge.specs.Merges.{Adds, AddsIf as AddsSize, AddsSource, AdvancesTo, Gives, Parts}
 use Rattle.sasi_termblocks.specs.declared.block_ref.BlockRef.{BlockRef}
 use Rattle.sasi_termblocks.specs.declared.list_form.ListForm.{ListForm}
@@ -57,7 +57,7 @@ source_listed : (v w : View) (opened : OpenIndexFile) (file : FileName) (list : 
     → AreListed v opened old → AreListed v opened new
 source_listed v w opened file list old new adds leads listed = λ bytes is. from adds.next adds.advances adds.put bytes is
   where
-    from : (next : Option TreeSource) → AdvancesTo w (record { buffered = record { file = file; page = None; bytes = [] }; tree = list; passed = 0 }) next → IsPermutation (option_to_list next ++ old) new → (bytes : Bytes) → contents v opened.file ≡ Some bytes
+    from : (next : Option TreeSource) → AdvancesTo w (record { buffered = record { file = file; page = None; bytes = [] }; tree = list; passed = 0; last = None }) next → IsPermutation (option_to_list next ++ old) new → (bytes : Bytes) → contents v opened.file ≡ Some bytes
         → All (λ (s : TreeSource). IsListedTree opened bytes s.tree.value.tree) new
     from None advances put bytes is = All-permutation (λ (s : TreeSource). IsListedTree opened bytes s.tree.value.tree) old new put (listed bytes is)
     from (Some next) advances put bytes is =

@@ -10,9 +10,9 @@ use Rattle.sasi_host.specs.Names.{Bytes}
 use Rattle.sasi_host.specs.Damages.{OnDamage}
 use Rattle.sasi_host.specs.View.{View, contents}
 use Rattle.sasi_terms.specs.declared.op.Op.{Op}
+use Rattle.sasi_tokentree.specs.Damages.{ShowsPairs}
 use Rattle.sasi_tokentree.specs.Format.{HasTree}
 use Rattle.sasi_termblocks.specs.declared.term_entry.TermEntry.{TermEntry}
-use Rattle.sasi_treemerge.specs.MergeDamages.{ShowsPairs}
 use Rattle.sasi_indexread.specs.Asked.{is_match, is_run}
 use Rattle.sasi_treemerge.specs.Merges.{Adds, AddsPairs, Parts}
 

@@ -7,11 +7,11 @@ use Rattle.sasi_host.specs.declared.damage.Damage.{Damage}
 use Rattle.sasi_host.specs.declared.name.FileName.{FileName}
 use Rattle.sasi_host.specs.Names.{Bytes}
 use Rattle.sasi_host.specs.Damages.{HasAt}
+use Rattle.sasi_tokentree.specs.Damages.{ShowsPairs}
 use Rattle.sasi_termblocks.specs.declared.term_entry.TermEntry.{TermEntry}
 use Rattle.sasi_termblocks.specs.Damages.{ShowsBlocks}
 use Rattle.sasi_termblocks.specs.Entries.{term_entry}
 use Rattle.sasi_termblocks.specs.Windows.{HasEntry, RefersWithin}
-use Rattle.sasi_treemerge.specs.MergeDamages.{ShowsPairs}
 use Rattle.sasi_indexwrite.specs.declared.footer.Footer.{Footer}
 use Rattle.sasi_indexwrite.specs.Format.{form_of, is_spill}
 use Rattle.sasi_indexread.specs.HeaderAndFooter.{HasHeaderAndFooter, ShowsHeaderOrFooter}

@@ -12,7 +12,7 @@ use Rattle.sasi_manifest.specs.declared.files.ListedFile.{ListedFile}
 use Rattle.sasi_manifest.specs.FileNames.{has_name}
 use Rattle.sasi_manifest.specs.ListedDefinition.{ListedDefinition}
 use Rattle.sasi_manifest.specs.ListedFiles.{has_file}
-use Rattle.sasi_layout.specs.Kept.{HasKept, Kept, is_kept}
+use Rattle.sasi_layout.specs.Kept.{AreAside, HasKeptBeside, Kept, is_kept, nothing}
 pub use Rattle.sasi_layout.proofs.FileNameLaws.{name_itself, name_same}
 use Rattle.sasi_layout.proofs.FileNameLaws.{data_named, other_kind}
 use Rattle.sasi_layout.specs.NumbersInOrder.{HasFilesInOrder, Rising}
@@ -83,9 +83,21 @@ number_above high last number (t ∷ ts) in_order above =
 
 -- ---- the folder as it reads
 
--- a name that isn't kept is free
-pub free_name : (v : View) (k : Kept) (name : FileName) → ((folder : Folder) → v.files ≡ Some folder → HasKept k folder) → is_kept k name ≡ false → IsAbsent v name
-free_name v k name has unkept = by v.files refl
+or_true : (a : Bool) → (a || true) ≡ true
+or_true true = refl
+or_true false = refl
+
+-- a folder has what is kept,
+pub kept_in : (aside : FileName → Bool) (k : Kept) (folder : Folder) (name : FileName) → HasKeptBeside aside k folder → is_kept k name ≡ true → is_some (get folder name) ≡ true
+kept_in aside k folder name has kept = has name ∙ ap (λ b. aside name || b) kept ∙ or_true (aside name)
+
+-- and nothing that is neither kept nor aside
+pub free_in : (aside : FileName → Bool) (k : Kept) (folder : Folder) (name : FileName) → HasKeptBeside aside k folder → aside name ≡ false → is_kept k name ≡ false → is_some (get folder name) ≡ false
+free_in aside k folder name has apart unkept = has name ∙ (λ i. apart i || unkept i)
+
+-- so such a name is free
+pub free_name : (v : View) (aside : FileName → Bool) (k : Kept) (name : FileName) → ((folder : Folder) → v.files ≡ Some folder → HasKeptBeside aside k folder) → aside name ≡ false → is_kept k name ≡ false → IsAbsent v name
+free_name v aside k name has apart unkept = by v.files refl
   where
     none : (o : Option Bytes) → is_some o ≡ false → o ≡ None
     none None e = refl
@@ -93,10 +105,36 @@ free_name v k name has unkept = by v.files refl
 
     by : (o : Option Folder) → v.files ≡ o → contents v name ≡ None
     by None is = ap (λ (o : Option Folder). contents_in o name) is
-    by (Some folder) is = ap (λ (o : Option Folder). contents_in o name) is ∙ none (get folder name) (has folder is name ∙ unkept)
+    by (Some folder) is = ap (λ (o : Option Folder). contents_in o name) is ∙ none (get folder name) (free_in aside k folder name (has folder is) apart unkept)
 
 -- a name that is kept is there
-pub kept_there : (v : View) (k : Kept) (name : FileName) → ((folder : Folder) → v.files ≡ Some folder → HasKept k folder) → is_kept k name ≡ true → IsThere v name
-kept_there v k name has kept told =
+pub kept_there : (v : View) (aside : FileName → Bool) (k : Kept) (name : FileName) → ((folder : Folder) → v.files ≡ Some folder → HasKeptBeside aside k folder) → is_kept k name ≡ true → IsThere v name
+kept_there v aside k name has kept told =
     let files = told_files v told in
-    subst (λ (o : Option Folder). IsSome (contents_in o name)) (sym files.1) (has files.0 files.1 name ∙ kept)
+    subst (λ (o : Option Folder). IsSome (contents_in o name)) (sym files.1) (kept_in aside k files.0 name (has files.0 files.1) kept)
+
+-- ---- names aside
+
+-- a name of another kind than tables have isn't aside
+pub aside_kind : (used : ℕ) (aside : FileName → Bool) (name : FileName) → AreAside used aside → rank name.kind < 3 → aside name ≡ false
+aside_kind used aside name are low = by (aside name) refl
+  where
+    by : (b : Bool) → aside name ≡ b → aside name ≡ false
+    by false is = is
+    by true is = absurd (omega (arith, are.kind name is, low))
+
+-- nor is one of a number that isn't used
+pub aside_number : (used : ℕ) (aside : FileName → Bool) (name : FileName) → AreAside used aside → used < name.number → aside name ≡ false
+aside_number used aside name are above = by (aside name) refl
+  where
+    by : (b : Bool) → aside name ≡ b → aside name ≡ false
+    by false is = is
+    by true is = absurd (omega (arith, are.number name is, above))
+
+-- where more numbers are used they are aside still
+pub aside_higher : (used more : ℕ) (aside : FileName → Bool) → used ≤ more → AreAside used aside → AreAside more aside
+aside_higher used more aside le are = record { kind = are.kind; number = λ name is. omega (arith, le, are.number name is) }
+
+-- none are
+pub none_aside : (used : ℕ) → AreAside used nothing
+none_aside used = record { kind = λ name is. cc; number = λ name is. cc }

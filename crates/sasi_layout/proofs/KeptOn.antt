@@ -1,17 +1,17 @@
 -- Which files are kept after a change that makes some names and lets go of others: one law for every move, and what a flush makes and
 -- lets go of.
-use Rattle.std.specs.Prelude.{◌≡◌, ◌||◌, ◌&&◌, ◌<◌, ◌≤◌, suc, Bool, true, false, nat_le, nat_lt, is_some, refl}
-use Rattle.std.proofs.Common.{sym, ap, ◌∙◌, inl, arith}
+use Rattle.std.specs.Prelude.{◌≡◌, ◌||◌, ◌&&◌, ◌<◌, ◌≤◌, ℕ, suc, Bool, true, false, nat_le, nat_lt, is_some, refl}
+use Rattle.std.proofs.Common.{sym, ap, subst, ◌∙◌, inl, arith}
 use Rattle.std.proofs.lemmas.Bool.Decides.{nat_tests}
 use Rattle.std.specs.FinMap.{get}
 use Rattle.sasi_host.specs.declared.name.FileName.{FileName}
-use Rattle.sasi_host.specs.Names.{Folder, log_name, manifest_name, name_eq, seal_name}
+use Rattle.sasi_host.specs.Names.{Folder, log_name, manifest_name, name_eq, rank, seal_name}
 use Rattle.sasi_manifest.specs.declared.files.ListedFile.{ListedFile}
 use Rattle.sasi_manifest.specs.FileNames.{has_name}
 use Rattle.sasi_layout.specs.Flushed.{flush_drops, flush_makes}
 use Rattle.sasi_manifest.specs.ListedFiles.{is_name_of}
-use Rattle.sasi_layout.specs.Kept.{HasKept, Kept, has_segment, is_kept}
-use Rattle.sasi_layout.proofs.KeptLaws.{dead_segment, keeps_segment, name_itself, name_same}
+use Rattle.sasi_layout.specs.Kept.{AreAside, HasKeptBeside, Kept, has_segment, is_kept}
+use Rattle.sasi_layout.proofs.KeptLaws.{aside_kind, dead_segment, keeps_segment, name_itself, name_same}
 
 -- ---- a change of names
 
@@ -27,16 +27,30 @@ pub record Turned (made gone : FileName → Bool) (x y : Folder) : Type 0 where
   pub old : (name : FileName) → made name ≡ false → gone name ≡ true → is_some (get y name) ≡ false
   pub same : (name : FileName) → made name ≡ false → gone name ≡ false → is_some (get y name) ≡ is_some (get x name)
 
--- **The folder has what is kept afterwards.**
-pub kept_on : (made gone : FileName → Bool) (k next : Kept) (x y : Folder) → TurnsInto made gone k next → Turned made gone x y → HasKept k x → HasKept next y
-kept_on made gone k next x y turns turned has name = by (made name) (gone name) refl refl
+-- **The folder has what is kept afterwards**, where no name that goes is aside.
+pub kept_on : (made gone : FileName → Bool) (aside : FileName → Bool) (k next : Kept) (x y : Folder) → ((name : FileName) → gone name ≡ true → aside name ≡ false) → TurnsInto made gone k next → Turned made gone x y → HasKeptBeside aside k x → HasKeptBeside aside next y
+kept_on made gone aside k next x y apart turns turned has name = by (made name) (gone name) refl refl
   where
-    by : (m g : Bool) → made name ≡ m → gone name ≡ g → is_some (get y name) ≡ is_kept next name
-    by true g is goes = turned.new name is ∙ sym (turns.new name is)
-    by false true is goes = turned.old name is goes ∙ sym (turns.old name is goes)
-    by false false is goes = turned.same name is goes ∙ has name ∙ sym (turns.same name is goes)
+    or_true : (a : Bool) → (a || true) ≡ true
+    or_true true = refl
+    or_true false = refl
+
+    by : (m g : Bool) → made name ≡ m → gone name ≡ g → is_some (get y name) ≡ (aside name || is_kept next name)
+    by true g is goes = turned.new name is ∙ sym (or_true (aside name)) ∙ ap (λ b. aside name || b) (sym (turns.new name is))
+    by false true is goes = turned.old name is goes ∙ sym (λ i. apart name goes i || turns.old name is goes i)
+    by false false is goes = turned.same name is goes ∙ has name ∙ ap (λ b. aside name || b) (sym (turns.same name is goes))
 
 -- ---- a flush
+
+both_true : (a b : Bool) → (a && b) ≡ true → (a ≡ true) × (b ≡ true)
+both_true true b is = (refl, is)
+both_true false b is = cc
+
+-- no segment that a flush lets go is aside
+pub dropped_apart : (used first floor : ℕ) (aside : FileName → Bool) (name : FileName) → AreAside used aside → flush_drops first floor name ≡ true → aside name ≡ false
+dropped_apart used first floor aside name are is =
+    let log = both_true (name_eq name (log_name name.number)) (nat_le first name.number && nat_lt name.number floor) is in
+    aside_kind used aside name are (subst (λ (n : FileName). rank n.kind < 3) (sym (name_same name (log_name name.number) log.0)) (omega arith))
 
 never : true ≡ false → ⊥
 never e = cc
@@ -48,10 +62,6 @@ other_name name other is same = never (sym (ap (λ (n : FileName). name_eq n oth
 both_false : (a b : Bool) → (a || b) ≡ false → (a ≡ false) × (b ≡ false)
 both_false true b is = cc
 both_false false b is = (refl, is)
-
-both_true : (a b : Bool) → (a && b) ≡ true → (a ≡ true) × (b ≡ true)
-both_true true b is = (refl, is)
-both_true false b is = cc
 
 module _ (k next : Kept) (f : ListedFile) (manifest : next.manifest ≡ k.manifest) (last : next.listing.last ≡ suc k.listing.last) (raised : k.listing.floor ≤ next.listing.floor) (below : next.listing.floor ≤ next.listing.last)
     (listed : (name : FileName) → has_name next.listing.tables name ≡ (is_name_of f name || has_name k.listing.tables name)) where

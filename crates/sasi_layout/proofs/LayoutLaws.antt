@@ -18,8 +18,9 @@ use Rattle.sasi_model.specs.Abbreviations.{Partitions}
 use Rattle.sasi_manifest.specs.ListedDefinition.{ListedDefinition}
 use Rattle.sasi_manifest.proofs.Replacing.{unchanged}
 use Rattle.sasi_layout.specs.Layout.{File, Layout, TableParts, bare, bare_table, listed_of, listing_of, state_of, table_of, unflushed}
-use Rattle.sasi_layout.specs.Moves.{Create, Define, Flush, Freeze, Move, Put, AreLegal, after_create, after_define, define_table, after_flush, after_freeze, after_moves, after_put, flush_table, flushed_file, freeze_table, moved, moved_state, new_parts, put_table, states}
+use Rattle.sasi_layout.specs.Moves.{Compact, Create, Define, Draw, Flush, Freeze, Move, Put, AreLegal, IsLegal, after_create, after_define, define_table, after_flush, after_freeze, after_moves, after_put, flush_table, flushed_file, freeze_table, moved, moved_state, new_parts, put_table, states}
 use Rattle.sasi_layout.specs.NumbersInOrder.{HasNumbersInOrder}
+use Rattle.sasi_layout.proofs.CompactLaws.{compact_state}
 use Rattle.sasi_layout.proofs.MovesInOrder.{moved_in_order}
 use Rattle.sasi_layout.proofs.Numbered.{seen_at, seen_twice, unseen_at}
 
@@ -97,17 +98,19 @@ define_state table index l = ap (λ (ts : List Table). record { partitioner = l.
 
 -- ---- moves
 
-pub moved_is : (m : Move) (l : Layout) → HasNumbersInOrder l → state_of (moved m l) ≡ moved_state m (state_of l)
-moved_is (Put m) l in_order = put_state m l
-moved_is (Freeze table) l in_order = freeze_state table l
-moved_is (Flush table) l in_order = flush_state table l
-moved_is (Create d) l in_order = create_state d l
-moved_is (Define table index) l in_order = define_state table index l
+pub moved_is : (m : Move) (l : Layout) → IsLegal m l → HasNumbersInOrder l → state_of (moved m l) ≡ moved_state m (state_of l)
+moved_is (Put m) l legal in_order = put_state m l
+moved_is (Freeze table) l legal in_order = freeze_state table l
+moved_is (Flush table) l legal in_order = flush_state table l
+moved_is (Create d) l legal in_order = create_state d l
+moved_is (Define table index) l legal in_order = define_state table index l
+moved_is Draw l legal in_order = refl
+moved_is (Compact c) l legal in_order = compact_state c l legal
 
 -- The state after moves is that of the moves.
 pub moves_state : (ms : List Move) (l : Layout) → AreLegal ms l → HasNumbersInOrder l → state_of (after_moves ms l) ≡ states ms (state_of l)
 moves_state [] l legal in_order = refl
-moves_state (m ∷ ms) l legal in_order = moves_state ms (moved m l) legal.1 (moved_in_order m l legal.0 in_order) ∙ ap (λ (s : State). states ms s) (moved_is m l in_order)
+moves_state (m ∷ ms) l legal in_order = moves_state ms (moved m l) legal.1 (moved_in_order m l legal.0 in_order) ∙ ap (λ (s : State). states ms s) (moved_is m l legal.0 in_order)
 
 pub moves_both : (ms ns : List Move) (l : Layout) → after_moves (ms ++ ns) l ≡ after_moves ns (after_moves ms l)
 moves_both [] ns l = refl

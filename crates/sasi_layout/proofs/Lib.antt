@@ -1,5 +1,6 @@
 pub mod Numbered
 pub mod ClassLaws
+pub mod CompactLaws
 pub mod LayoutLaws
 pub mod ListingLaws
 pub mod MovesInOrder
@@ -17,14 +18,17 @@ pub mod Bodies
 pub mod Contents
 pub mod Storable
 pub mod NewFiles
+pub mod OutputFile
 pub mod OneContent
 pub mod OneShape
 pub mod StatementLaws
 pub mod Defines
+pub mod Compacts
 pub mod FileNameLaws
 pub mod KeptLaws
 pub mod KeptOn
 pub mod Parts
+pub mod StillRunning
 pub mod TimeLaws
 pub mod Fewer
 pub mod Orders

@@ -7,20 +7,11 @@ use Rattle.sasi_model.specs.State.{Definition, Index}
 use Rattle.sasi_manifest.specs.declared.files.ListedFile.{ListedFile}
 use Rattle.sasi_manifest.specs.ListedDefinition.{ListedDefinition}
 use Rattle.sasi_model.specs.Changes.{at_number}
-use Rattle.sasi_layout.specs.Layout.{File, Layout, TableParts, listed_of}
-use Rattle.sasi_layout.specs.Moves.{AreLegal, Create, Define, Flush, Freeze, IsLegal, Move, Put, after_create, after_define, define_table, after_flush, after_moves, flush_table, flushed_file, freeze_table, moved, new_parts, put_table}
+use Rattle.sasi_layout.specs.Layout.{File, Layout, TableParts, listed_of, listing_of}
+use Rattle.sasi_layout.specs.Moves.{AreLegal, Compact, Create, Define, Draw, Flush, Freeze, IsLegal, Move, Put, after_create, after_define, after_draw, define_table, after_flush, after_moves, flush_table, flushed_file, freeze_table, moved, new_parts, put_table}
 use Rattle.sasi_layout.specs.NumbersInOrder.{HasFilesInOrder, HasIndexesNumbered, HasNumbersInOrder, Rising}
+use Rattle.sasi_layout.proofs.CompactLaws.{compact_in_order, of_parts, to_parts}
 use Rattle.sasi_layout.proofs.Numbered.{all_changed, unseen_at}
-
--- ---- by the tables' parts
-
-to_parts : (P : ListedDefinition → Type 0) (ts : List TableParts) → AllByRecursion P (map listed_of ts) → AllByRecursion (λ t. P (listed_of t)) ts
-to_parts P [] all = tt
-to_parts P (t ∷ ts) all = (all.0, to_parts P ts all.1)
-
-of_parts : (P : ListedDefinition → Type 0) (ts : List TableParts) → AllByRecursion (λ t. P (listed_of t)) ts → AllByRecursion P (map listed_of ts)
-of_parts P [] all = tt
-of_parts P (t ∷ ts) all = (all.0, of_parts P ts all.1)
 
 all_push : {A : Type 0} (P : A → Type 0) (xs : List A) (x : A) → AllByRecursion P xs → P x → AllByRecursion P (xs ++ x ∷ [])
 all_push P [] x all is = (is, tt)
@@ -28,11 +19,11 @@ all_push P (y ∷ xs) x all is = (all.0, all_push P xs x all.1 is)
 
 -- ---- numbers
 
-rising_higher : (low a b : ℕ) (fs : List ListedFile) → a ≤ b → Rising low a fs → Rising low b fs
+pub rising_higher : (low a b : ℕ) (fs : List ListedFile) → a ≤ b → Rising low a fs → Rising low b fs
 rising_higher low a b [] le rise = omega (arith, le, rise)
 rising_higher low a b (f ∷ fs) le rise = (rise.0, rising_higher f.number a b fs le rise.1)
 
-rising_push : (low high : ℕ) (fs : List ListedFile) (g : ListedFile) → Rising low high fs → g.number ≡ suc high → Rising low (suc high) (fs ++ g ∷ [])
+pub rising_push : (low high : ℕ) (fs : List ListedFile) (g : ListedFile) → Rising low high fs → g.number ≡ suc high → Rising low (suc high) (fs ++ g ∷ [])
 rising_push low high [] g rise is = (omega (arith, rise, is), omega (arith, is))
 rising_push low high (f ∷ fs) g rise is = (rise.0, rising_push f.number high fs g rise.1 is)
 
@@ -100,12 +91,21 @@ define_in_order table index l in_order =
           (λ t is. record { counted = is.counted; within = numbers_higher high (suc high) t.numbers (omega arith) is.within }) 1 table l.tables (to_parts (HasIndexesNumbered high) l.tables in_order.indexes));
     }
 
+draw_in_order : (l : Layout) → HasNumbersInOrder l → HasNumbersInOrder (after_draw l)
+draw_in_order l in_order = record { files = by (listing_of l).tables in_order.files; indexes = in_order.indexes }
+  where
+    by : (ts : List ListedDefinition) → AllByRecursion (HasFilesInOrder l.used.«data» l.last) ts → AllByRecursion (HasFilesInOrder (suc l.used.«data») l.last) ts
+    by [] all = tt
+    by (t ∷ ts) all = (record { rise = rising_higher 0 l.used.«data» (suc l.used.«data») t.files (omega arith) all.0.rise; since = all.0.since }, by ts all.1)
+
 pub moved_in_order : (m : Move) (l : Layout) → IsLegal m l → HasNumbersInOrder l → HasNumbersInOrder (moved m l)
 moved_in_order (Put m) l legal in_order = unlisted_in_order l m.table (put_table l.partitioner l.last m) (λ t. refl) in_order
 moved_in_order (Freeze table) l legal in_order = unlisted_in_order l table freeze_table (λ t. refl) in_order
 moved_in_order (Flush table) l legal in_order = flush_in_order table l in_order
 moved_in_order (Create d) l legal in_order = create_in_order d l legal in_order
 moved_in_order (Define table index) l legal in_order = define_in_order table index l in_order
+moved_in_order Draw l legal in_order = draw_in_order l in_order
+moved_in_order (Compact c) l legal in_order = compact_in_order c l legal in_order
 
 pub moves_in_order : (ms : List Move) (l : Layout) → AreLegal ms l → HasNumbersInOrder l → HasNumbersInOrder (after_moves ms l)
 moves_in_order [] l legal in_order = in_order

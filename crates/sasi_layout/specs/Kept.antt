@@ -1,8 +1,8 @@
 -- The files that belong to a store, by their names alone: a store in memory knows them without reading the folder.
-use Rattle.std.specs.Prelude.{◌≡◌, ◌&&◌, ◌||◌, ℕ, Bool, nat_le, is_some}
+use Rattle.std.specs.Prelude.{◌≡◌, ◌≤◌, ◌&&◌, ◌||◌, ℕ, Bool, true, false, nat_le, is_some}
 use Rattle.std.specs.FinMap.{get}
 use Rattle.sasi_host.specs.declared.name.FileName.{FileName}
-use Rattle.sasi_host.specs.Names.{Folder, log_name, manifest_name, name_eq, seal_name}
+use Rattle.sasi_host.specs.Names.{Folder, log_name, manifest_name, name_eq, rank, seal_name}
 use Rattle.sasi_manifest.specs.declared.listing.Listing.{Listing}
 use Rattle.sasi_manifest.specs.FileNames.{has_name}
 use Rattle.sasi_layout.specs.Layout.{Layout, listing_of}
@@ -27,9 +27,26 @@ kept_of l = record { manifest = l.used.manifest; listing = listing_of l }
 abbrev pub belongs : Layout → FileName → Bool
 belongs l name = is_kept (kept_of l) name
 
+-- one of these names, or a kept one
+abbrev pub is_kept_beside : (FileName → Bool) → Kept → FileName → Bool
+is_kept_beside aside k name = aside name || is_kept k name
+
+-- the folder has the files that are kept, those aside, and no other
+abbrev pub HasKeptBeside : (FileName → Bool) → Kept → Folder → Type 0
+HasKeptBeside aside k folder = (name : FileName) → is_some (get folder name) ≡ is_kept_beside aside k name
+
+-- no name
+abbrev pub nothing : FileName → Bool
+nothing name = false
+
 -- the folder has the files that are kept, and no other
 abbrev pub HasKept : Kept → Folder → Type 0
-HasKept k folder = (name : FileName) → is_some (get folder name) ≡ is_kept k name
+HasKept k folder = HasKeptBeside nothing k folder
+
+-- Files that a store has aside of those that it lists: data files and index files, of numbers that are used.
+pub record AreAside (used : ℕ) (aside : FileName → Bool) : Type 0 where
+  pub kind : (name : FileName) → aside name ≡ true → 3 ≤ rank name.kind
+  pub number : (name : FileName) → aside name ≡ true → name.number ≤ used
 
 -- The folder has exactly the files that belong to the layout.
 abbrev pub HasExactly : Layout → Folder → Type 0

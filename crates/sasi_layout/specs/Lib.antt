@@ -1,6 +1,7 @@
 pub mod Layout
-pub mod Moves
 pub mod NumbersInOrder
+pub mod Compacting
+pub mod Moves
 pub mod Statements
 pub mod FileNames
 pub mod Spent
@@ -8,6 +9,7 @@ pub mod Kept
 pub mod Shape
 pub mod Frames
 pub mod Flushed
+pub mod Compacted
 pub mod Between
 pub mod Serving
 pub mod Classes

@@ -1,4 +1,5 @@
--- The moves of a layout: a mutation is put, a memtable is frozen, what isn't flushed becomes a file, and a table is created.
+-- The moves of a layout: a mutation is put, a memtable is frozen, what isn't flushed becomes a file, a table is created, an index is
+-- defined, a number is drawn, and some files become one.
 use Rattle.std.specs.Prelude.{◌≡◌, ℕ, suc, ◌+◌, min, nat_eq, if◌then◌else◌, List, [], ◌∷◌, ◌++◌, length, Option, None, Some, ⊤}
 use Rattle.std.specs.FinMap as map_
 use Rattle.sasi_types.specs.declared.partitioner.Partitioner.{Partitioner}
@@ -16,6 +17,7 @@ use Rattle.sasi_manifest.specs.declared.files.ListedFile.{ListedFile}
 use Rattle.sasi_manifest.specs.declared.files.PartNumber.{PartNumber}
 use Rattle.sasi_manifest.specs.Edits.{encoded}
 use Rattle.sasi_manifest.specs.Listings.{index_edit}
+use Rattle.sasi_layout.specs.Compacting.{Compaction, IsRunning, compact_parts, compact_table, listed_output}
 use Rattle.sasi_layout.specs.Layout.{File, Layout, TableParts, rising_numbers, drawn, numbered, unflushed}
 
 -- the first, and else the second
@@ -127,6 +129,35 @@ after_define table index l = record l {
   used = record l.used { index = suc l.used.index };
 }
 
+-- ---- draw
+
+-- the next data number is drawn: a compaction begins, and its file has none yet
+abbrev pub after_draw : Layout → Layout
+after_draw l = record l { used = record l.used { «data» = suc l.used.«data» } }
+
+-- ---- compact
+
+-- what is asked of the table of a compaction, if it is there
+abbrev pub of_table : {A : Type 0} → Compaction → Layout → (TableParts → List A) → List A
+of_table c l ask = option_map_or ask (numbered 1 c.table l.tables) []
+
+-- the manifest's record of its last unit
+abbrev pub compact_edits : Compaction → Layout → List Edit
+compact_edits c l = of_table c l (λ t. Replace c.table c.sources (listed_output l.used.part c t.numbers ∷ []) t.since l.floor l.last ∷ [])
+
+-- the parts that it draws
+abbrev pub parts_of_compaction : Compaction → Layout → List PartNumber
+parts_of_compaction c l = of_table c l (λ t. compact_parts l.used.part c t.numbers)
+
+-- one file stands in the place of those that it takes in
+abbrev pub after_compact : Compaction → Layout → Layout
+after_compact c l = record l {
+  records = l.records + 1;
+  length = l.length + (5 + length (encoded (compact_edits c l)));
+  tables = at_number 1 c.table (compact_table l.used.part c) l.tables;
+  used = record l.used { part = l.used.part + length (parts_of_compaction c l) };
+}
+
 -- ---- moves
 
 pub data Move : Type 0 where
@@ -138,6 +169,8 @@ pub data Move : Type 0 where
   Create : Definition → Move
   -- the number of the table, and its new index
   Define : ℕ → Index → Move
+  Draw : Move
+  Compact : Compaction → Move
 
 abbrev pub moved : Move → Layout → Layout
 moved (Put m) l = after_put m l
@@ -145,6 +178,8 @@ moved (Freeze table) l = after_freeze table l
 moved (Flush table) l = after_flush table l
 moved (Create d) l = after_create d l
 moved (Define table index) l = after_define table index l
+moved Draw l = after_draw l
+moved (Compact c) l = after_compact c l
 
 abbrev pub after_moves : List Move → Layout → Layout
 after_moves [] l = l
@@ -157,6 +192,8 @@ moved_state (Freeze table) s = s
 moved_state (Flush table) s = s
 moved_state (Create d) s = with_new_table s d
 moved_state (Define table index) s = state_with_index s table index
+moved_state Draw s = s
+moved_state (Compact c) s = s
 
 abbrev pub states : List Move → State → State
 states [] s = s
@@ -164,13 +201,15 @@ states (m ∷ ms) s = states ms (moved_state m s)
 
 -- ---- legal moves
 
--- a new table has no index
+-- a new table has no index, and a compaction takes in the first files of its table
 abbrev pub IsLegal : Move → Layout → Type 0
 IsLegal (Put m) l = ⊤
 IsLegal (Freeze table) l = ⊤
 IsLegal (Flush table) l = ⊤
 IsLegal (Create d) l = d.indexes ≡ []
 IsLegal (Define table index) l = ⊤
+IsLegal Draw l = ⊤
+IsLegal (Compact c) l = IsRunning c l
 
 abbrev pub AreLegal : List Move → Layout → Type 0
 AreLegal [] l = ⊤
@@ -185,3 +224,5 @@ move_edits l (Freeze table) = []
 move_edits l (Flush table) = flush_edits table l
 move_edits l (Create d) = create_edits d l
 move_edits l (Define table index) = define_edits table index l
+move_edits l Draw = []
+move_edits l (Compact c) = compact_edits c l

@@ -1,5 +1,5 @@
 -- A store in memory: what it is, what it needs to make a change, and which layout it serves.
-use Rattle.std.specs.Prelude.{◌≡◌, ◌+◌, ◌^◌, ◌<◌, ◌≤◌, ℕ, IsTrue, List, [], ◌∷◌, ◌++◌, map, Option, None, Some, length, ⊤}
+use Rattle.std.specs.Prelude.{◌≡◌, ◌+◌, ◌^◌, ◌<◌, ◌≤◌, ℕ, Bool, IsTrue, List, [], ◌∷◌, ◌++◌, map, Option, None, Some, length, ⊤}
 use Rattle.std.specs.FinMap.{get}
 use Rattle.std.specs.List.{AllByRecursion}
 use Rattle.sasi_types.specs.declared.column.ColumnType.{ColumnType}
@@ -7,6 +7,7 @@ use Rattle.sasi_types.specs.declared.decorated_key.DecoratedKey.{DecoratedKey}
 use Rattle.sasi_types.specs.declared.partitioner.Partitioner.{Partitioner}
 use Rattle.sasi_types.specs.Token.{AreBytes}
 use Rattle.sasi_host.specs.Names.{Folder, log_name, manifest_name}
+use Rattle.sasi_host.specs.declared.name.FileName.{FileName}
 use Rattle.sasi_host.specs.View.{IsTold, Reaches, View}
 use Rattle.sasi_host.specs.Disk.{Each}
 use Rattle.sasi_gated.specs.Handles.{Handle}
@@ -20,7 +21,7 @@ use Rattle.sasi_commitlog.specs.LogPosition.{IsAtLogEnd}
 use Rattle.sasi_manifest.specs.Consistent.{IsConsistent}
 use Rattle.sasi_manifest.specs.Listings.{listed_definitions}
 use Rattle.sasi_manifest.specs.OpenManifest.{ManifestState, ManifestStands}
-use Rattle.sasi_layout.specs.Kept.{HasExactly, HasKept, Kept}
+use Rattle.sasi_layout.specs.Kept.{AreAside, HasExactly, HasKeptBeside, Kept}
 use Rattle.sasi_layout.specs.Layout.{Layout, TableParts, Used, bare, listing_of, state_of}
 use Rattle.sasi_layout.specs.Shape.{HasShape, IsOfShape}
 use Rattle.sasi_layout.specs.Statements.{definitions_of}
@@ -98,7 +99,11 @@ pub record AreNumbered (manifest : ManifestState) (used : Used) : Type 0 where
   pub indexes : AllByRecursion (HasIndexesNumbered used.index) manifest.listing.tables
   pub fits : used.«data» < 2 ^ 32
 
--- The store can make a change, whatever is known of the folder's contents: calls on the host find the names that they need, and no other file is there.
+-- the folder has the files that the store keeps, those aside, and no other
+abbrev pub HasExactlyBeside : View → (FileName → Bool) → StoreInMemory → Type 0
+HasExactlyBeside v aside store = (folder : Folder) → v.files ≡ Some folder → HasKeptBeside aside (kept_by store) folder
+
+-- The store can make a change, whatever is known of the folder's contents: calls on the host find the names that they need, and no other file is there but those aside.
 pub record CanChange (v : View) (store : StoreInMemory) : Type 0 where
   pub consistent : IsConsistent store.manifest.listing
   pub definitions : store.definitions ≡ listed_definitions store.manifest.listing.tables
@@ -111,7 +116,9 @@ pub record CanChange (v : View) (store : StoreInMemory) : Type 0 where
   pub manifest_usable : IsTrue store.manifest.usable
   pub stands : IsTold v → ManifestStands v store.manifest.number store.manifest.at store.manifest.listing
   pub log_usable : IsTrue store.log.usable
-  pub kept : (folder : Folder) → v.files ≡ Some folder → HasKept (kept_by store) folder
+  pub aside : FileName → Bool
+  pub aside_are : AreAside store.used.«data» aside
+  pub exactly : HasExactlyBeside v aside store
 
 -- ---- the layout that it serves
 

@@ -4,4 +4,4 @@
 
 mod told_names;
 
-pub use told_names::{listed_names, push_file, push_tables, sort_names};
+pub use told_names::{compare_told, listed_names, push_file, push_parts, push_tables, sort_names};

@@ -29,8 +29,8 @@ pub fn sort_names(names: &mut Vec<FileName>)
     names.sort_unstable_by(|a, b| compare_told(a, b));
 }
 
-// Compares two names by the order in which they are told.
-fn compare_told(a: &FileName, b: &FileName) -> Ordering
+/// Compares two names by the order in which they are told.
+pub fn compare_told(a: &FileName, b: &FileName) -> Ordering
     ensures { result ≡ told_cmp a.now b.now }
 {
     let numbers = a.number.cmp(&b.number);
@@ -68,8 +68,8 @@ pub fn push_file(names: &mut Vec<FileName>, file: &ListedFile) -> Result<(), All
     push_parts(names, file.number, file.parts.as_slice())
 }
 
-// Adds the names of the index files that go with the data file of this number.
-fn push_parts(
+/// Adds the names of the index files that go with the data file of this number.
+pub fn push_parts(
     names: &mut Vec<FileName>,
     number: DataNumber,
     parts: &[PartNumber],

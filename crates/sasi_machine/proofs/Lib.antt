@@ -15,6 +15,7 @@ pub mod KeyLiterals
 pub mod Passed
 pub mod Picked
 pub mod StatementPreparing
+pub mod CompactPreparing
 pub mod SelectPreparing
 pub mod PreparedPieces
 pub mod Printed

@@ -23,13 +23,14 @@ use Rattle.sasi_machine.specs.Outcome.{outcome_of}
 use Rattle.sasi_machine.specs.Prepares.{HasRows, OpensFrom, Prepares, StepsTo, answer_rows, rows_asked}
 use Rattle.sasi_machine.specs.declared.outcome.Outcome.{Outcome}
 use Rattle.sasi_machine.specs.declared.outcome.Outcome.TheVariants.{Done}
+use Rattle.sasi_machine.specs.declared.prepared.CompactAsked.{CompactAsked}
 use Rattle.sasi_machine.specs.declared.prepared.FetchAsked.{FetchAsked}
 use Rattle.sasi_machine.specs.declared.prepared.OpenAsked.{OpenAsked}
 use Rattle.sasi_machine.specs.declared.prepared.Prepared.{Prepared}
-use Rattle.sasi_machine.specs.declared.prepared.Prepared.TheVariants.{Answered, Create, Define, Write as Writes, Flush as Flushes, Select as Selects, Trace as Traces, Files as ListsFiles, Open as Opens, Fetch as Fetches, Close as Closes}
+use Rattle.sasi_machine.specs.declared.prepared.Prepared.TheVariants.{Answered, Create, Define, Write as Writes, Flush as Flushes, Compact as Compacts, Select as Selects, Trace as Traces, Files as ListsFiles, Open as Opens, Fetch as Fetches, Close as Closes}
 use Rattle.sasi_machine.specs.declared.prepared.Selection.{Selection}
 use Rattle.sasi_machine.proofs.CursorTurns.{close_refused, close_taken, closed_agrees, fetch_refused, fetch_taken, fetched_agrees, open_refused, open_taken, opened_agrees}
-use Rattle.sasi_machine.proofs.SessionTurns.{TurnsSession, created_leaves, defined_leaves, flushed_leaves, listed_turns, refused_leaves, selected_turns, traced_turns, written_leaves}
+use Rattle.sasi_machine.proofs.SessionTurns.{TurnsSession, compacted_leaves, created_leaves, defined_leaves, flushed_leaves, listed_turns, refused_leaves, selected_turns, traced_turns, written_leaves}
 
 -- what two clauses say of a value together
 pub both_ok : {T E : Type 0} (P Q R : T → Type 0) (r : Result T E) → ((x : T) → P x → Q x → R x) → IfOk r P → IfOk r Q → IfOk r R
@@ -89,16 +90,23 @@ defined_turn s piece cursors reply new prepares = as_stepped s piece (λ x. x) _
 pub written_turn : (s : State) (piece : Piece) (cursors : PrintedCursors) (reply : List ℕ) (w : Mutation) → Prepares s piece reply (Writes w) → AnswersSessions s piece cursors cursors reply Done
 written_turn s piece cursors reply w prepares = as_stepped s piece (λ x. x) _ _ cursors reply Done (λ x prints. prints) (written_leaves s piece w prepares.1) prepares.0
 
--- what needs nothing more to be done in memory
-pub done_turn : (s : State) (piece : Piece) (cursors : PrintedCursors) (reply : List ℕ) (prepared : Prepared) → ((n : ℕ) × (prepared ≡ Flushes n)) ⊎ (((on : Bool) × (prepared ≡ Traces on)) ⊎ (prepared ≡ ListsFiles))
+-- what is on the files of a table needs nothing to be done in memory
+pub files_turn : (s : State) (piece : Piece) (cursors : PrintedCursors) (reply : List ℕ) (prepared : Prepared) → ((n : ℕ) × (prepared ≡ Flushes n)) ⊎ ((asked : CompactAsked) × (prepared ≡ Compacts asked))
     → Prepares s piece reply prepared → AnswersSessions s piece cursors cursors reply Done
-done_turn s piece cursors reply prepared (inl (n, is)) prepares =
+files_turn s piece cursors reply prepared (inl (n, is)) prepares =
     let all = subst (Prepares s piece reply) is prepares in
     as_stepped s piece (λ x. x) _ _ cursors reply Done (λ x prints. prints) (flushed_leaves s piece n all.1) all.0
-done_turn s piece cursors reply prepared (inr (inl (on, is))) prepares =
+files_turn s piece cursors reply prepared (inr (asked, is)) prepares =
+    let all = subst (Prepares s piece reply) is prepares in
+    as_stepped s piece (λ x. x) _ _ cursors reply Done (λ x prints. prints) (compacted_leaves s piece asked all.1) all.0
+
+-- nor does what is told of a session or of the files
+pub told_turn : (s : State) (piece : Piece) (cursors : PrintedCursors) (reply : List ℕ) (prepared : Prepared) → ((on : Bool) × (prepared ≡ Traces on)) ⊎ (prepared ≡ ListsFiles)
+    → Prepares s piece reply prepared → AnswersSessions s piece cursors cursors reply Done
+told_turn s piece cursors reply prepared (inl (on, is)) prepares =
     let all = subst (Prepares s piece reply) is prepares in
     as_stepped s piece (λ x. record x { trace = on }) (λ x. NoTail) s cursors reply Done (λ x prints. prints) (traced_turns s piece on all.1) all.0
-done_turn s piece cursors reply prepared (inr (inr is)) prepares =
+told_turn s piece cursors reply prepared (inr is) prepares =
     let all = subst (Prepares s piece reply) is prepares in
     as_stepped s piece (λ x. x) _ _ cursors reply Done (λ x prints. prints) (listed_turns s piece all.2) all.0
 

@@ -7,7 +7,7 @@ use Rattle.sasi_types.specs.declared.statement.Select.{Select}
 use Rattle.sasi_types.specs.declared.statement.Statement.TheVariants.{CloseCursor, Fetch, OpenCursor, Query}
 use Rattle.sasi_model.specs.Abbreviations.{FetchRange, NoTable, definitions, first_refusal}
 use Rattle.sasi_model.specs.Refusals.{Known, Refusal, RefusalRule, answer_rules, is_count, rules, select_rules}
-use Rattle.sasi_model.specs.Sessions.{fetch_count}
+use Rattle.sasi_model.specs.Sessions.{count_asked}
 use Rattle.sasi_model.specs.State as model
 use Rattle.sasi_model.specs.State.{Definition, State, definition_of}
 use Rattle.sasi_model.specs.Step.{answer_of, rows_selected, select_lines, select_rows}
@@ -23,7 +23,7 @@ use Rattle.sasi_machine.specs.StatementSteps.{IsRefused}
 use Rattle.sasi_machine.specs.declared.outcome.Outcome.{Outcome}
 use Rattle.sasi_machine.specs.declared.prepared.FetchAsked.{FetchAsked}
 use Rattle.sasi_machine.specs.declared.prepared.Prepared.{Prepared}
-use Rattle.sasi_machine.specs.declared.prepared.Prepared.TheVariants.{Answered, Create, Define, Write as Writes, Flush as Flushes, Select as Selects, Trace as Traces, Files as ListsFiles, Open as Opens, Fetch as Fetches, Close as Closes}
+use Rattle.sasi_machine.specs.declared.prepared.Prepared.TheVariants.{Answered, Create, Define, Write as Writes, Flush as Flushes, Compact as Compacts, Select as Selects, Trace as Traces, Files as ListsFiles, Open as Opens, Fetch as Fetches, Close as Closes}
 use Rattle.sasi_machine.specs.declared.prepared.Selection.{Selection}
 use Rattle.sasi_machine.proofs.KnownStates.{definitions_are}
 use Rattle.sasi_machine.proofs.NumberedTables.{number_some, table_numbered}
@@ -88,6 +88,7 @@ select_asks known select found reply_old reply_new (Create t) written defined nu
 select_asks known select found reply_old reply_new (Define new) written defined numbered prepares = absurd prepares
 select_asks known select found reply_old reply_new (Writes w) written defined numbered prepares = absurd prepares
 select_asks known select found reply_old reply_new (Flushes table) written defined numbered prepares = absurd prepares
+select_asks known select found reply_old reply_new (Compacts asked) written defined numbered prepares = absurd prepares
 
 -- ---- OPEN
 
@@ -137,6 +138,7 @@ open_asks known cursor select t reply_old reply_new (Create table) written defin
 open_asks known cursor select t reply_old reply_new (Define new) written defined numbered prepares = absurd prepares
 open_asks known cursor select t reply_old reply_new (Writes w) written defined numbered prepares = absurd prepares
 open_asks known cursor select t reply_old reply_new (Flushes table) written defined numbered prepares = absurd prepares
+open_asks known cursor select t reply_old reply_new (Compacts asked) written defined numbered prepares = absurd prepares
 open_asks known cursor select t reply_old reply_new (Selects rows) written defined numbered prepares = absurd prepares
 open_asks known cursor select t reply_old reply_new (Traces on) written defined numbered prepares = absurd prepares
 open_asks known cursor select t reply_old reply_new ListsFiles written defined numbered prepares = absurd prepares
@@ -153,6 +155,7 @@ open_refused known cursor select reply_old reply_new (Create table) absent prepa
 open_refused known cursor select reply_old reply_new (Define new) absent prepares = absurd prepares
 open_refused known cursor select reply_old reply_new (Writes w) absent prepares = absurd prepares
 open_refused known cursor select reply_old reply_new (Flushes table) absent prepares = absurd prepares
+open_refused known cursor select reply_old reply_new (Compacts asked) absent prepares = absurd prepares
 open_refused known cursor select reply_old reply_new (Traces on) absent prepares = absurd prepares
 open_refused known cursor select reply_old reply_new ListsFiles absent prepares = absurd prepares
 open_refused known cursor select reply_old reply_new (Opens asked) absent prepares = absurd prepares
@@ -177,7 +180,7 @@ cursor_absent known cursor select reply_old reply_new (Err e) absent prepares = 
 
 -- ---- FETCH
 
-pub fetch_asks : (known : Known) (count : Number) (asked : FetchAsked) (reply : List ℕ) → is_count count ≡ true → asked.count ≡ fetch_count count
+pub fetch_asks : (known : Known) (count : Number) (asked : FetchAsked) (reply : List ℕ) → is_count count ≡ true → asked.count ≡ count_asked count
     → IsPrepared known (Fetch asked.cursor count) reply reply (Fetches asked)
 fetch_asks known count asked reply counted rows =
     let none : first_refusal (rules known (Fetch asked.cursor count)) ≡ None = rw counted refl in

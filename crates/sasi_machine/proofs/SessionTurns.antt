@@ -10,7 +10,7 @@ use Rattle.sasi_model.specs.Parsers.{grammar_parser}
 use Rattle.sasi_model.specs.Pieces.{Piece}
 use Rattle.sasi_model.specs.Refusals.{Bad, Nothing, ParsedPiece, Refusal, Says, cursor_rules, read, refusal}
 use Rattle.sasi_model.specs.Lines.{rows_lines}
-use Rattle.sasi_model.specs.Sessions.{CheckedTail, FilesTail, NoTail, SessionState, Tail, Told, Turn, cursor_names, cursor_refusal, fetch_count, ok_turn, refused_turn, reply_by, rows_given, rows_left, tail_bytes, taken_turn, turn_as, turn_by, without_cursor}
+use Rattle.sasi_model.specs.Sessions.{CheckedTail, FilesTail, NoTail, SessionState, Tail, Told, Turn, cursor_names, cursor_refusal, count_asked, ok_turn, refused_turn, reply_by, rows_given, rows_left, tail_bytes, taken_turn, turn_as, turn_by, without_cursor}
 use Rattle.sasi_model.specs.State.{State}
 use Rattle.sasi_model.specs.Step.{StepResult, answer_of, execute, refused_step, rows_selected, step, step_as, step_by}
 use Rattle.sasi_model.specs.Tokens.{same}
@@ -18,9 +18,10 @@ use Rattle.sasi_schema.specs.declared.index.NewIndex.{NewIndex}
 use Rattle.sasi_schema.specs.declared.table.Table.{Table}
 use Rattle.sasi_types.specs.declared.statement.Select.{Select}
 use Rattle.sasi_types.specs.declared.statement.Statement.{Statement}
-use Rattle.sasi_types.specs.declared.statement.Statement.TheVariants.{CloseCursor, CreateTable, CreateIndex, Fetch, Insert, OpenCursor, Update, Delete, Query, Flush, ShowFiles, Trace}
-use Rattle.sasi_machine.specs.Prepares.{AsksFiles, ClosesCursor, CreatesTable, DefinesIndex, FetchesRows, FlushesTable, IsRefusedOrEmpty, OpensCursor, SaysOne, SelectsRows, TurnsTrace, WritesTo}
+use Rattle.sasi_types.specs.declared.statement.Statement.TheVariants.{BeginCompact, CloseCursor, Compact, CreateTable, CreateIndex, Fetch, Insert, OpenCursor, StepCompact, Update, Delete, Query, Flush, ShowFiles, Trace}
+use Rattle.sasi_machine.specs.Prepares.{AsksFiles, ClosesCursor, CompactsTable, CreatesTable, DefinesIndex, FetchesRows, FlushesTable, IsRefusedOrEmpty, OpensCursor, SaysOne, SelectsRows, TurnsTrace, WritesTo, compact_asked}
 use Rattle.sasi_machine.specs.Writes.{IsWriting}
+use Rattle.sasi_machine.specs.declared.prepared.CompactAsked.{CompactAsked}
 use Rattle.sasi_machine.specs.declared.prepared.FetchAsked.{FetchAsked}
 use Rattle.sasi_machine.specs.declared.prepared.OpenAsked.{OpenAsked}
 use Rattle.sasi_machine.specs.declared.prepared.Selection.{Selection}
@@ -123,6 +124,16 @@ flushed_leaves s piece table says = said_turns s piece (λ statement. FlushesTab
         → option_map_or (refused_turn x) (cursor_refusal x statement) (taken_turn x s statement) ≡ record { session = x; reply = answer_of s statement; tail = NoTail; refused = None }
     turns (Flush name) is x = refl
     turns statement is x = absurd is
+
+pub compacted_leaves : (s : State) (piece : Piece) (asked : CompactAsked) → SaysOne piece (λ statement. CompactsTable s statement asked) → LeavesSession s piece
+compacted_leaves s piece asked says = said_turns s piece (λ statement. CompactsTable s statement asked) (λ x. x) (λ x. NoTail) says (λ statement is. is.taken) (λ statement is. turns statement is.table is.asked_is)
+  where
+    turns : (statement : Statement) (table : List ℕ) → compact_asked statement ≡ Some (table, Some asked.steps) → (x : SessionState)
+        → option_map_or (refused_turn x) (cursor_refusal x statement) (taken_turn x s statement) ≡ record { session = x; reply = answer_of s statement; tail = NoTail; refused = None }
+    turns (Compact name) table is x = refl
+    turns (BeginCompact name) table is x = refl
+    turns (StepCompact name units) table is x = refl
+    turns statement table is x = cc
 
 -- TRACE turns it on or off
 pub traced_turns : (s : State) (piece : Piece) (on : Bool) → SaysOne piece (λ statement. TurnsTrace s statement on) → TurnsSession s piece (λ x. record x { trace = on }) (λ x. NoTail)
@@ -259,7 +270,7 @@ fetched_turns s piece asked (statement, says, well, is) x there = by statement s
     by (Fetch cursor count) says is =
         taken_turns s piece (Fetch cursor count) x says is.0
         (ap (λ name. first_refusal (cursor_rules (cursor_names x) (Fetch name count))) (sym is.1) ∙ rw there refl)
-        ∙ ap (λ name. taken name (fetch_count count)) (sym is.1) ∙ ap (taken asked.cursor) (sym is.2)
+        ∙ ap (λ name. taken name (count_asked count)) (sym is.1) ∙ ap (taken asked.cursor) (sym is.2)
     by statement says is = absurd is
 
 -- CLOSE: the cursor is open no longer

@@ -23,7 +23,7 @@ use Rattle.sasi_machine.proofs.StatementBodies.{change_fits}
 use Rattle.sasi_model.specs.Changes.{changed_tables, empty_table, state_with_index, with_new_table}
 use Rattle.sasi_model.specs.Indexes.{index_of}
 use Rattle.sasi_model.specs.Pieces.{Piece}
-use Rattle.sasi_model.specs.Refusals.{Known, Refusal, RefusalRule, Says, create_rules, flush_rules, known_of, read, refusal, rules}
+use Rattle.sasi_model.specs.Refusals.{Known, Refusal, RefusalRule, Says, create_rules, known_of, read, refusal, rules, table_rules}
 use Rattle.sasi_model.specs.State as model
 use Rattle.sasi_model.specs.State.{Column, Definition, State, definition_of, max_timestamp, decorated}
 use Rattle.sasi_model.specs.Step.{StepResult, execute, primary_key, refused_step as refused_as, step, step_as, step_by}
@@ -34,7 +34,7 @@ use Rattle.sasi_schema.specs.declared.index.NewIndex.{NewIndex}
 use Rattle.sasi_schema.specs.declared.table.Table.{Table}
 use Rattle.sasi_machine.specs.declared.outcome.Outcome.{Outcome}
 use Rattle.sasi_machine.specs.declared.prepared.Prepared.{Prepared}
-use Rattle.sasi_machine.specs.declared.prepared.Prepared.TheVariants.{Answered, Create, Define, Write as Writes, Flush as Flushes, Select as Selects, Trace as Traces, Files as ListsFiles, Open as Opens, Fetch as Fetches, Close as Closes}
+use Rattle.sasi_machine.specs.declared.prepared.Prepared.TheVariants.{Answered, Create, Define, Write as Writes, Flush as Flushes, Compact as Compacts, Select as Selects, Trace as Traces, Files as ListsFiles, Open as Opens, Fetch as Fetches, Close as Closes}
 use Rattle.sasi_machine.specs.declared.prepared.FetchAsked.{FetchAsked}
 use Rattle.sasi_machine.specs.declared.prepared.OpenAsked.{OpenAsked}
 use Rattle.sasi_machine.specs.declared.prepared.Selection.{Selection}
@@ -116,8 +116,8 @@ write_asks known statement w reply_old reply_new writing write none reply_is = r
 
 -- ---- FLUSH
 
-found_flush : (ds : List Definition) (table : List ℕ) (d : Definition) → definition_of table ds ≡ Some d → first_refusal (flush_rules table (definition_of table ds)) ≡ None
-found_flush ds table d found = ap (λ (o : Option Definition). first_refusal (flush_rules table o)) found
+found_flush : (ds : List Definition) (table : List ℕ) (d : Definition) → definition_of table ds ≡ Some d → first_refusal (table_rules table (definition_of table ds)) ≡ None
+found_flush ds table d found = ap (λ (o : Option Definition). first_refusal (table_rules table o)) found
 
 pub flush_asks : (known : Known) (table : List ℕ) (number : ℕ) (d : Definition) (reply_old reply_new : List ℕ) → number_of_table table known.tables ≡ Some number → definition_of table known.tables ≡ Some d
     → reply_new ≡ reply_old ++ ok_line → IsPrepared known (Flush table) reply_old reply_new (Flushes number)
@@ -136,7 +136,7 @@ flush_asks known table number d reply_old reply_new numbered found reply_is =
 -- no table of the name
 pub flush_refused : (known : Known) (table : List ℕ) (reply_old reply_new : List ℕ) (outcome : Outcome) → definition_of table known.tables ≡ None → IsRefused (Some (NoTable table)) reply_old reply_new outcome → IsPrepared known (Flush table) reply_old reply_new (Answered outcome)
 flush_refused known table reply_old reply_new outcome absent refused =
-    refuses known (Flush table) (Some (NoTable table)) reply_old reply_new outcome (ap (λ (o : Option Definition). first_refusal (flush_rules table o)) absent) refused
+    refuses known (Flush table) (Some (NoTable table)) reply_old reply_new outcome (ap (λ (o : Option Definition). first_refusal (table_rules table o)) absent) refused
 
 -- ---- TRACE
 
@@ -323,6 +323,8 @@ prepares s piece statement reply_old reply (Writes w) says well empty asks =
     (steps s piece statement (state_with_mutation s w) reply_old reply (outcome_of None) says empty asks.0, (statement, says, well, asks.1), writes_fit s statement w well asks.1)
 prepares s piece statement reply_old reply (Flushes table) says well empty asks =
     (steps s piece statement s reply_old reply (outcome_of None) says empty asks.0, (statement, says, well, asks.1), flush_there s statement table asks.1)
+prepares s piece statement reply_old reply (Compacts asked) says well empty asks =
+    (steps s piece statement s reply_old reply (outcome_of None) says empty asks.0, (statement, says, well, asks.1), asks.1.has)
 prepares s piece statement reply_old reply (Selects rows) says well empty asks =
     (steps s piece statement s [] (answer_rows s rows) (outcome_of None) says refl (rows_step s statement rows asks.1), asks.0 ∙ empty, rows_there s statement rows asks.1, (statement, says, well, asks.1))
 prepares s piece statement reply_old reply (Traces on) says well empty asks =
@@ -365,6 +367,7 @@ prepared_can s statement reply_old reply (Create t) well asks = (makes_next s st
 prepared_can s statement reply_old reply (Define new) well asks = index_there s statement new asks.1
 prepared_can s statement reply_old reply (Writes w) well asks = writes_fit s statement w well asks.1
 prepared_can s statement reply_old reply (Flushes table) well asks = flush_there s statement table asks.1
+prepared_can s statement reply_old reply (Compacts asked) well asks = asks.1.has
 prepared_can s statement reply_old reply (Selects rows) well asks = tt
 prepared_can s statement reply_old reply (Traces on) well asks = tt
 prepared_can s statement reply_old reply ListsFiles well asks = tt
@@ -413,6 +416,7 @@ query_of known statement reply_old reply (Create t) asks select = absurd select
 query_of known statement reply_old reply (Define new) asks select = absurd select
 query_of known statement reply_old reply (Writes w) asks select = absurd select
 query_of known statement reply_old reply (Flushes table) asks select = absurd select
+query_of known statement reply_old reply (Compacts asked) asks select = absurd select
 query_of known statement reply_old reply (Traces on) asks select = absurd select
 query_of known statement reply_old reply ListsFiles asks select = absurd select
 query_of known statement reply_old reply (Opens asked) asks select = absurd select
@@ -437,6 +441,7 @@ listing_of known statement reply_old reply (Create t) asks lists = absurd lists
 listing_of known statement reply_old reply (Define new) asks lists = absurd lists
 listing_of known statement reply_old reply (Writes w) asks lists = absurd lists
 listing_of known statement reply_old reply (Flushes table) asks lists = absurd lists
+listing_of known statement reply_old reply (Compacts asked) asks lists = absurd lists
 listing_of known statement reply_old reply (Selects rows) asks lists = absurd lists
 listing_of known statement reply_old reply (Traces on) asks lists = absurd lists
 listing_of known statement reply_old reply (Opens asked) asks lists = absurd lists

@@ -1,12 +1,13 @@
--- What a piece prepares: an answer alone, a new table, a new index, a mutation, a flush, rows to print, or TRACE.
-use Rattle.std.specs.Prelude.{◌≡◌, ◌⊎◌, ℕ, ◌+◌, ◌-◌, ◌<◌, ◌≤◌, Bool, List, Option, length, slice_get, [], IsSome, None, Some, true, ⊤}
+-- What a piece prepares: an answer alone, a new table, a new index, a mutation, a flush, steps of compactions, rows to print, or TRACE.
+use Rattle.std.specs.Prelude.{◌≡◌, ◌⊎◌, ℕ, if◌then◌else◌, ◌+◌, ◌-◌, ◌<◌, ◌≤◌, Bool, List, Option, length, slice_get, [], IsSome, None, Some, true, ⊤}
 use Rattle.std.specs.FinMap as map_
 use Rattle.std.specs.Option.{option_map_or}
 use Rattle.sasi_types.specs.declared.column.ColumnType.{ColumnType}
+use Rattle.sasi_types.specs.declared.literal.Number.{Number}
 use Rattle.sasi_types.specs.declared.statement.Select.{Select}
 use Rattle.sasi_types.specs.declared.statement.Statement.{Statement}
 use Rattle.sasi_types.specs.declared.value.Value.{Value}
-use Rattle.sasi_types.specs.declared.statement.Statement.TheVariants.{CreateTable, CreateIndex, OpenCursor, Fetch, CloseCursor, Flush, Query, ShowFiles, Trace}
+use Rattle.sasi_types.specs.declared.statement.Statement.TheVariants.{CreateTable, CreateIndex, OpenCursor, Fetch, CloseCursor, Flush, Compact, BeginCompact, StepCompact, Query, ShowFiles, Trace}
 use Rattle.sasi_cells.specs.declared.mutation.Mutation.{Mutation}
 use Rattle.sasi_cells.specs.Mutations.{state_with_mutation}
 use Rattle.sasi_schema.specs.Defined.{definition}
@@ -22,8 +23,8 @@ use Rattle.sasi_model.specs.Asked as ask
 use Rattle.sasi_model.specs.Asked.{Asked, parsed_asks}
 use Rattle.sasi_model.specs.Abbreviations.{definitions, first_refusal, new_definition}
 use Rattle.sasi_model.specs.Changes.{state_with_index, with_new_table}
-use Rattle.sasi_model.specs.Refusals.{Known, Nothing, answer_rules, ParsedPiece, Says, is_built, known_of, read, refusal}
-use Rattle.sasi_model.specs.Sessions.{fetch_count}
+use Rattle.sasi_model.specs.Refusals.{Known, Nothing, answer_rules, ParsedPiece, Says, is_built, is_count, known_of, read, refusal}
+use Rattle.sasi_model.specs.Sessions.{count_asked}
 use Rattle.sasi_model.specs.Step.{answer_of, rows_selected, select_lines, select_rows, step}
 use Rattle.sasi_model.specs.Stored.{IsBodyOf, column_types}
 use Rattle.sasi_model.specs.WellFormed.{IsWellFormed, IsWellFormedSelect}
@@ -33,7 +34,10 @@ use Rattle.sasi_machine.specs.StatementSteps.{StatementStepsTo}
 use Rattle.sasi_machine.specs.Writes.{IsWrite, IsWriting}
 use Rattle.sasi_machine.specs.declared.outcome.Outcome.{Outcome}
 use Rattle.sasi_machine.specs.declared.prepared.Prepared.{Prepared}
-use Rattle.sasi_machine.specs.declared.prepared.Prepared.TheVariants.{Answered, Create, Define, Write as Writes, Flush as Flushes, Select as Selects, Trace as Traces, Files as ListsFiles, Open as Opens, Fetch as Fetches, Close as Closes}
+use Rattle.sasi_machine.specs.declared.prepared.Prepared.TheVariants.{Answered, Create, Define, Write as Writes, Flush as Flushes, Compact as Compacts, Select as Selects, Trace as Traces, Files as ListsFiles, Open as Opens, Fetch as Fetches, Close as Closes}
+use Rattle.sasi_machine.specs.declared.prepared.CompactAsked.{CompactAsked}
+use Rattle.sasi_machine.specs.declared.prepared.CompactSteps.{CompactSteps}
+use Rattle.sasi_machine.specs.declared.prepared.CompactSteps.TheVariants.{Whole, Begin, Units}
 use Rattle.sasi_machine.specs.declared.prepared.FetchAsked.{FetchAsked}
 use Rattle.sasi_machine.specs.declared.prepared.OpenAsked.{OpenAsked}
 use Rattle.sasi_machine.specs.declared.prepared.Selection.{Selection}
@@ -93,6 +97,32 @@ pub record WritesTo (s : State) (statement : Statement) (w : Mutation) : Type 0 
 abbrev pub FlushesTable : State → Statement → ℕ → Type 0
 FlushesTable s (Flush table) number = (refusal s (Flush table) ≡ None) × (number_of_table table (definitions s.tables) ≡ Some number) × HasTable s number
 FlushesTable s statement number = ⊥
+
+-- the steps of a STEP of so many units, where no rule refuses the number
+abbrev pub unit_steps : Number → Option CompactSteps
+unit_steps units = if is_count units then Some (Units (count_asked units)) else None
+
+-- the table that a statement on compactions names, and the steps that it asks for there, where no rule refuses their number
+abbrev pub compact_asked : Statement → Option (List ℕ × Option CompactSteps)
+compact_asked (Compact table) = Some (table, Some Whole)
+compact_asked (BeginCompact table) = Some (table, Some Begin)
+compact_asked (StepCompact table units) = Some (table, unit_steps units)
+compact_asked statement = None
+
+-- the statement names this table, which is there, and asks for these steps
+pub record AsksSteps (known : Known) (t : Table) (steps : Option CompactSteps) (statement : Statement) : Type 0 where
+  pub table : List ℕ
+  pub asked_is : compact_asked statement ≡ Some (table, steps)
+  pub numbered : number_of_table table known.tables ≡ Some t.number
+  pub found : definition_of table known.tables ≡ Some (definition t)
+
+-- the statement isn't refused, and asks for these steps of the compactions of the table that it names
+pub record CompactsTable (s : State) (statement : Statement) (asked : CompactAsked) : Type 0 where
+  pub table : List ℕ
+  pub asked_is : compact_asked statement ≡ Some (table, Some asked.steps)
+  pub taken : refusal s statement ≡ None
+  pub named : number_of_table table (definitions s.tables) ≡ Some asked.table
+  pub has : HasTable s asked.table
 
 -- the table of the rows is there, and the SELECT names it and isn't refused on it
 pub record HasRows (s : State) (rows : Selection) : Type 0 where
@@ -155,7 +185,7 @@ OpensCursor s (OpenCursor cursor select) asked = OpensFrom s cursor select asked
 OpensCursor s statement asked = ⊥
 
 abbrev pub FetchesRows : State → Statement → FetchAsked → Type 0
-FetchesRows s (Fetch cursor count) asked = (refusal s (Fetch cursor count) ≡ None) × (asked.cursor ≡ cursor) × (asked.count ≡ fetch_count count)
+FetchesRows s (Fetch cursor count) asked = (refusal s (Fetch cursor count) ≡ None) × (asked.cursor ≡ cursor) × (asked.count ≡ count_asked count)
 FetchesRows s statement asked = ⊥
 
 abbrev pub ClosesCursor : State → Statement → List ℕ → Type 0
@@ -169,6 +199,7 @@ StatementPrepares s statement reply_old reply_new (Create t) = StatementStepsTo 
 StatementPrepares s statement reply_old reply_new (Define new) = StatementStepsTo s statement (state_with_index s new.table (index_of_new new)) reply_old reply_new (outcome_of None) × DefinesIndex s statement new
 StatementPrepares s statement reply_old reply_new (Writes w) = StatementStepsTo s statement (state_with_mutation s w) reply_old reply_new (outcome_of None) × WritesTo s statement w
 StatementPrepares s statement reply_old reply_new (Flushes table) = StatementStepsTo s statement s reply_old reply_new (outcome_of None) × FlushesTable s statement table
+StatementPrepares s statement reply_old reply_new (Compacts asked) = StatementStepsTo s statement s reply_old reply_new (outcome_of None) × CompactsTable s statement asked
 StatementPrepares s statement reply_old reply_new (Selects rows) = (reply_new ≡ reply_old) × SelectsRows s statement rows
 StatementPrepares s statement reply_old reply_new (Traces on) = StatementStepsTo s statement s reply_old reply_new (outcome_of None) × TurnsTrace s statement on
 StatementPrepares s statement reply_old reply_new ListsFiles = StatementStepsTo s statement s reply_old reply_new (outcome_of None) × AsksFiles s statement
@@ -183,6 +214,7 @@ asked_by (Create t) = ask.Creates (definition t)
 asked_by (Define new) = ask.Defines new.table (index_of_new new)
 asked_by (Writes w) = ask.Writes w.table w.key w.change
 asked_by (Flushes table) = ask.Flushes table
+asked_by (Compacts asked) = ask.NoChange
 asked_by (Selects rows) = ask.NoChange
 asked_by (Traces on) = ask.NoChange
 asked_by ListsFiles = ask.NoChange
@@ -195,13 +227,14 @@ pub record IsPrepared (known : Known) (statement : Statement) (reply_old reply_n
   pub asked_is : parsed_asks known (Says statement) ≡ asked_by prepared
   pub of_state : (s : State) → IsStateOf known s → StatementPrepares s statement reply_old reply_new prepared
 
--- a new table, a new index, a flush, rows, TRACE and files don't depend on the time
+-- a new table, a new index, a flush, steps of compactions, rows, TRACE and files don't depend on the time
 abbrev pub IsTimeless : Prepared → Type 0
 IsTimeless (Answered outcome) = ⊥
 IsTimeless (Create t) = ⊤
 IsTimeless (Define new) = ⊤
 IsTimeless (Writes w) = ⊥
 IsTimeless (Flushes table) = ⊤
+IsTimeless (Compacts asked) = ⊤
 IsTimeless (Selects rows) = ⊤
 IsTimeless (Traces on) = ⊤
 IsTimeless ListsFiles = ⊤
@@ -221,6 +254,7 @@ CanBeDone s (Create t) = IsNewTable s t × (t.indexes ≡ [])
 CanBeDone s (Define new) = IsAddable s new
 CanBeDone s (Writes w) = IsApplicable s w
 CanBeDone s (Flushes table) = HasTable s table
+CanBeDone s (Compacts asked) = HasTable s asked.table
 CanBeDone s (Selects rows) = ⊤
 CanBeDone s (Traces on) = ⊤
 CanBeDone s ListsFiles = ⊤
@@ -233,6 +267,14 @@ abbrev pub IsChanging : Statement → Type 0
 IsChanging (Query select) = ⊥
 IsChanging (OpenCursor cursor select) = ⊥
 IsChanging statement = is_built statement ≡ true
+
+-- the statement is a write, or is on the files of a table
+abbrev pub IsOnTable : Statement → Type 0
+IsOnTable (Flush table) = ⊤
+IsOnTable (Compact table) = ⊤
+IsOnTable (BeginCompact table) = ⊤
+IsOnTable (StepCompact table units) = ⊤
+IsOnTable statement = IsWriting statement
 
 -- ---- what a piece asks for
 
@@ -277,6 +319,7 @@ Prepares s piece reply (Create t) = StepsTo s piece (with_new_table s (definitio
 Prepares s piece reply (Define new) = StepsTo s piece (state_with_index s new.table (index_of_new new)) reply (outcome_of None) × SaysOne piece (λ statement. DefinesIndex s statement new) × IsAddable s new
 Prepares s piece reply (Writes w) = StepsTo s piece (state_with_mutation s w) reply (outcome_of None) × SaysOne piece (λ statement. WritesTo s statement w) × IsApplicable s w
 Prepares s piece reply (Flushes table) = StepsTo s piece s reply (outcome_of None) × SaysOne piece (λ statement. FlushesTable s statement table) × HasTable s table
+Prepares s piece reply (Compacts asked) = StepsTo s piece s reply (outcome_of None) × SaysOne piece (λ statement. CompactsTable s statement asked) × HasTable s asked.table
 Prepares s piece reply (Selects rows) = StepsTo s piece s (answer_rows s rows) (outcome_of None) × (reply ≡ []) × HasRows s rows × SaysOne piece (λ statement. SelectsRows s statement rows)
 Prepares s piece reply (Traces on) = StepsTo s piece s reply (outcome_of None) × SaysOne piece (λ statement. TurnsTrace s statement on)
 Prepares s piece reply ListsFiles = StepsTo s piece s reply (outcome_of None) × (reply ≡ []) × SaysOne piece (AsksFiles s)

@@ -5,7 +5,7 @@ use Rattle.sasi_schema.specs.declared.fault.Limit.TheVariants.{Tables, Columns}
 use Rattle.sasi_model.specs.Refusals as rules
 use Rattle.sasi_model.specs.Abbreviations as model
 use Rattle.sasi_machine.specs.declared.refusal.Refusal.{Refusal}
-use Rattle.sasi_machine.specs.declared.refusal.Refusal.TheVariants.{Syntax, StatementTooLong, NotUtf8, NoTable, TableExists, NoColumn, ColumnRepeated, WrongType, NumberRange, LimitRange, KeyMissing, KeyEmpty, ValueTooLong, IndexExists, BadOption, BadUsing, ModeType, OperatorUnsupported, LikeEmpty, NeedsFiltering, TimestampRange, ClockSpent, TooMany, TooManyRelations, CursorExists, NoCursor, TooManyCursors, FetchRange, ScriptEnds, NotBuilt}
+use Rattle.sasi_machine.specs.declared.refusal.Refusal.TheVariants.{Syntax, StatementTooLong, NotUtf8, NoTable, TableExists, NoColumn, ColumnRepeated, WrongType, NumberRange, LimitRange, KeyMissing, KeyEmpty, ValueTooLong, IndexExists, BadOption, BadUsing, ModeType, OperatorUnsupported, LikeEmpty, NeedsFiltering, TimestampRange, ClockSpent, TooMany, TooManyRelations, CursorExists, NoCursor, TooManyCursors, FetchRange, StepRange, ScriptEnds, NotBuilt}
 
 -- the model's refusal of that name
 abbrev pub refusal_of : Refusal → rules.Refusal
@@ -37,6 +37,7 @@ refusal_of (CursorExists cursor) = model.CursorExists cursor
 refusal_of (NoCursor cursor) = model.NoCursor cursor
 refusal_of TooManyCursors = model.TooManyCursors
 refusal_of FetchRange = model.FetchRange
+refusal_of StepRange = model.StepRange
 refusal_of ScriptEnds = model.ScriptEnds
 refusal_of NotBuilt = model.NotBuilt
 
@@ -77,4 +78,5 @@ words_in (TooMany Columns) = codes "columns 64"
 words_in TooManyRelations = codes "relations 32"
 words_in TooManyCursors = codes "cursors 64"
 words_in FetchRange = codes "FETCH"
+words_in StepRange = codes "STEP"
 words_in refusal = []

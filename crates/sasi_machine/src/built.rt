@@ -15,6 +15,9 @@ pub fn is_built(statement: &Statement) -> bool
         | Statement::Delete { .. }
         | Statement::Query { .. }
         | Statement::Flush { .. }
+        | Statement::Compact { .. }
+        | Statement::BeginCompact { .. }
+        | Statement::StepCompact { .. }
         | Statement::Trace { .. }
         | Statement::ShowFiles
         | Statement::OpenCursor { .. }

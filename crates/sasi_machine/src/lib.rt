@@ -48,7 +48,7 @@ pub use condition::{Comparison, Condition};
 pub use cursors::check_open;
 pub use machine::Machine;
 pub use outcome::Outcome;
-pub use prepared::{FetchAsked, OpenAsked, Prepared, Selection};
+pub use prepared::{CompactAsked, CompactSteps, FetchAsked, OpenAsked, Prepared, Selection};
 pub use preparing::{prepare, prepare_change};
 pub use refusal::Refusal;
 pub use reply_refusal::reply_refusal as refuse;

@@ -1,9 +1,9 @@
-// The LIMIT of a SELECT.
+// Numbers of rows and of units: the LIMIT of a SELECT, and what a FETCH or a STEP asks for.
 ghost use Rattle.std.specs.Prelude.{◌≡◌, true, false, IfNone, IfSome};
 ghost use Rattle.sasi_types.specs.declared.literal.Number.TheVariants.{Fits};
 ghost use Rattle.sasi_model.specs.Filters.{row_limit};
 ghost use Rattle.sasi_model.specs.Refusals.{is_count, limit_range};
-ghost use Rattle.sasi_model.specs.Sessions.{fetch_count};
+ghost use Rattle.sasi_model.specs.Sessions.{count_asked};
 
 use sasi_types::Number;
 
@@ -35,9 +35,9 @@ pub fn row_limit(limit: Option<Number>) -> Option<u64>
     }
 }
 
-/// How many rows a FETCH asks for; None where it isn't a number of rows.
-pub fn row_count(count: Number) -> Option<u32>
-    ensures some { IfSome result (λ rows. (is_count count ≡ true) × (rows ≡ fetch_count count)) }
+/// How many rows a FETCH asks for, or units a STEP; None where a rule refuses the number.
+pub fn count_asked(count: Number) -> Option<u32>
+    ensures some { IfSome result (λ rows. (is_count count ≡ true) × (rows ≡ count_asked count)) }
     ensures none { IfNone result (is_count count ≡ false) }
 {
     match count {

@@ -117,7 +117,8 @@ fn step_with(
             database.apply(mutation)?;
             Ok(Outcome::Done)
         }
-        Prepared::Flush(_) | Prepared::Trace(_) | Prepared::Files => Ok(Outcome::Done),
+        Prepared::Flush(_) | Prepared::Compact(_) => Ok(Outcome::Done),
+        Prepared::Trace(_) | Prepared::Files => Ok(Outcome::Done),
         Prepared::Select(rows) => {
             let lines = database.lines(&rows, kit)?;
             print_rows(&lines, reply)?;

@@ -17,6 +17,8 @@ pub enum Prepared {
     Write(Mutation),
     /// A table to flush.
     Flush(TableNumber),
+    /// Steps of the compactions of a table.
+    Compact(CompactAsked),
     /// A SELECT, whose rows are to be printed behind the reply so far.
     Select(Selection),
     /// TRACE to be turned on or off.
@@ -29,6 +31,24 @@ pub enum Prepared {
     Fetch(FetchAsked),
     /// A cursor to close, where one has the name.
     Close(Name),
+}
+
+/// A COMPACT, a BEGIN COMPACT or a STEP COMPACT of a table.
+#[derive(Clone, Copy)]
+pub struct CompactAsked {
+    pub table: TableNumber,
+    pub steps: CompactSteps,
+}
+
+/// What is to be done of the compactions of a table, of which at most one runs.
+#[derive(Clone, Copy)]
+pub enum CompactSteps {
+    /// What is left of the running compaction, and then one of all files.
+    Whole,
+    /// The begin of one of all files, where none runs.
+    Begin,
+    /// At most so many units of the running one, from 1 to 2^31 - 1.
+    Units(u32),
 }
 
 /// A SELECT that isn't refused, and the number of its table.

@@ -1,5 +1,6 @@
 // The preparing of pieces, before anything changes.
-ghost use Rattle.std.specs.Prelude.{◌≡◌, ◌≤◌, ℕ, List, true, map, IfErr, IfOk};
+ghost use Rattle.std.specs.Prelude.{◌≡◌, ◌≤◌, ℕ, List, Some, true, map, IfErr, IfOk};
+ghost use Rattle.sasi_types.specs.declared.statement.Statement.{Statement};
 ghost use Rattle.sasi_types.specs.declared.statement.Statement.TheVariants.{CloseCursor, CreateTable, Fetch, Flush, ShowFiles, Trace};
 ghost use Rattle.sasi_model.specs.Abbreviations.{TIME_LIMIT as time_limit};
 ghost use Rattle.sasi_model.specs.Asked.{asks};
@@ -9,14 +10,14 @@ ghost use Rattle.sasi_model.specs.Refusals.{Known, is_built, read as parsed};
 ghost use Rattle.sasi_model.specs.State.{State};
 ghost use Rattle.sasi_model.specs.WellFormed.{IsWellFormed};
 ghost use Rattle.sasi_machine.specs.Classes.{OnMissing, TablesLack};
-ghost use Rattle.sasi_machine.specs.Prepares.{CanBeDone, IsChanging, IsPrepared, IsListing, IsPreparedFor, IsQuery, IsSelect, IsShowFiles, IsStateOf, IsTimeless, Prepares, asked_by, known_by};
+ghost use Rattle.sasi_machine.specs.Prepares.{AsksSteps, CanBeDone, IsChanging, IsPrepared, IsListing, IsOnTable, IsPreparedFor, IsQuery, IsSelect, IsShowFiles, IsStateOf, IsTimeless, Prepares, asked_by, compact_asked, known_by, unit_steps};
 ghost use Rattle.sasi_machine.specs.Writes.{IsWriting};
 
 use crate::builder::MutationBuilder;
 use crate::fault::Fault;
 use crate::index::prepare_index;
-use crate::limit::row_count;
-use crate::prepared::{FetchAsked, Prepared};
+use crate::limit::count_asked;
+use crate::prepared::{CompactAsked, CompactSteps, FetchAsked, Prepared};
 use crate::read::{ParsedPiece, read};
 use crate::reply_refusal::{reply_fault, reply_refusal};
 use crate::select::{prepare_open, prepare_select};
@@ -24,7 +25,7 @@ use crate::statement_mutation::statement_mutation;
 use crate::{Outcome, Refusal, Reply};
 use sasi_analyzers::Kit;
 use sasi_print::ok;
-use sasi_schema::Schema;
+use sasi_schema::{Schema, Table};
 use sasi_types::{Columns, DeclaredColumns, KitFault, Name, Names, Number, PieceEnd, Statement};
 use std::alloc::{AllocError, Global};
 
@@ -150,11 +151,36 @@ fn prepare_other(
             &options,
             reply,
         ),
-        Statement::Flush { table } => prepare_flush(schema, table, reply),
         Statement::Trace { on } => prepare_trace(on, reply),
         Statement::ShowFiles => Ok(prepare_files()),
         Statement::Fetch { cursor, count } => prepare_fetch(cursor, count, reply),
         Statement::CloseCursor { cursor } => Ok(prepare_close(cursor)),
+        other => prepare_on_table(builder, schema, other, reply),
+    }
+}
+
+// Prepares a statement on the files of a table or on its rows.
+fn prepare_on_table(
+    builder: &MutationBuilder,
+    schema: &Schema,
+    statement: Statement,
+    reply: &mut Reply,
+) -> Result<Prepared, AllocError>
+    requires limit { builder.now.max_timestamp ≤ time_limit }
+    requires on_table { IsOnTable statement }
+    ensures { IfOk result (IsPreparedFor (known_by schema.now builder.now.max_timestamp) statement reply.old reply.new) }
+{
+    match statement {
+        Statement::Flush { table } => prepare_flush(schema, table, reply),
+        Statement::Compact { table } => {
+            prepare_compact(schema, table, Some(CompactSteps::Whole), reply)
+        }
+        Statement::BeginCompact { table } => {
+            prepare_compact(schema, table, Some(CompactSteps::Begin), reply)
+        }
+        Statement::StepCompact { table, units } => {
+            prepare_compact(schema, table, unit_steps(units), reply)
+        }
         write => prepare_mutation(builder, schema, write, reply),
     }
 }
@@ -211,6 +237,56 @@ fn prepare_flush(schema: &Schema, table: Name, reply: &mut Reply) -> Result<Prep
     }
 }
 
+// What is asked of the compactions of a table; no steps where a rule refuses their number.
+fn prepare_compact(
+    schema: &Schema,
+    table: Name,
+    steps: Option<CompactSteps>,
+    reply: &mut Reply,
+) -> Result<Prepared, AllocError>
+    ensures { IfOk result (λ prepared. (max_time : ℕ) (statement : Statement) → compact_asked statement ≡ Some (table, steps) → IsPrepared (known_by schema.now max_time) statement reply.old reply.new prepared) }
+{
+    match schema.table(&table) {
+        Some(table) => prepare_steps(table, steps, reply),
+        None => {
+            let outcome = reply_refusal(reply, Refusal::NoTable(table))?;
+            Ok(Prepared::Answered(outcome))
+        }
+    }
+}
+
+fn prepare_steps(
+    table: &Table,
+    steps: Option<CompactSteps>,
+    reply: &mut Reply,
+) -> Result<Prepared, AllocError>
+    ensures { IfOk result (λ prepared. (known : Known) (statement : Statement) → AsksSteps known table.now steps statement → IsPrepared known statement reply.old reply.new prepared) }
+{
+    match steps {
+        Some(steps) => {
+            ok(reply)?;
+            Ok(Prepared::Compact(CompactAsked {
+                table: table.number,
+                steps,
+            }))
+        }
+        None => {
+            let outcome = reply_refusal(reply, Refusal::StepRange)?;
+            Ok(Prepared::Answered(outcome))
+        }
+    }
+}
+
+// The steps of a STEP COMPACT of so many units; None where a rule refuses the number.
+fn unit_steps(units: Number) -> Option<CompactSteps>
+    ensures { result ≡ unit_steps units }
+{
+    match count_asked(units) {
+        Some(count) => Some(CompactSteps::Units(count)),
+        None => None,
+    }
+}
+
 // TRACE is never refused.
 fn prepare_trace(on: bool, reply: &mut Reply) -> Result<Prepared, AllocError>
     ensures { IfOk result (λ prepared. (known : Known) → IsPrepared known (Trace on) reply.old reply.new prepared) }
@@ -229,7 +305,7 @@ fn prepare_files() -> Prepared
 fn prepare_fetch(cursor: Name, count: Number, reply: &mut Reply) -> Result<Prepared, AllocError>
     ensures { IfOk result (λ prepared. (known : Known) → IsPrepared known (Fetch cursor count) reply.old reply.new prepared) }
 {
-    match row_count(count) {
+    match count_asked(count) {
         Some(count) => Ok(Prepared::Fetch(FetchAsked { cursor, count })),
         None => {
             let outcome = reply_refusal(reply, Refusal::FetchRange)?;

@@ -50,6 +50,8 @@ pub enum Refusal {
     TooManyCursors,
     /// The FETCH doesn't ask for a number of rows.
     FetchRange,
+    /// The STEP doesn't ask for a number of units.
+    StepRange,
     ScriptEnds,
     NotBuilt,
 }
@@ -68,7 +70,10 @@ impl Refusal {
             Refusal::NoColumn(_) => 6,
             Refusal::ColumnRepeated(_) => 7,
             Refusal::WrongType(_) => 8,
-            Refusal::NumberRange(_) | Refusal::LimitRange | Refusal::FetchRange => 9,
+            Refusal::NumberRange(_)
+            | Refusal::LimitRange
+            | Refusal::FetchRange
+            | Refusal::StepRange => 9,
             Refusal::KeyMissing(_) => 10,
             Refusal::KeyEmpty(_) => 11,
             Refusal::ValueTooLong(_) => 12,
@@ -122,6 +127,7 @@ impl Refusal {
             | Refusal::TooManyRelations
             | Refusal::TooManyCursors
             | Refusal::FetchRange
+            | Refusal::StepRange
             | Refusal::ScriptEnds
             | Refusal::NotBuilt => None,
         }
@@ -140,6 +146,7 @@ impl Refusal {
             Refusal::TooManyRelations => "relations 32",
             Refusal::TooManyCursors => "cursors 64",
             Refusal::FetchRange => "FETCH",
+            Refusal::StepRange => "STEP",
             _ => "",
         }
     }

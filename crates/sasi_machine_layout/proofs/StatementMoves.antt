@@ -4,7 +4,7 @@ use Rattle.std.specs.Prelude.{codes, if◌then◌else◌}
 use Rattle.std.specs.Map.{lookup}
 use Rattle.std.specs.Option.{option_map_or}
 use Rattle.sasi_types.specs.declared.statement.Statement.{Statement}
-use Rattle.sasi_types.specs.declared.statement.Statement.TheVariants.{CreateTable, CreateIndex, Fetch, Insert, OpenCursor, Update, Delete, Flush, Query, ShowFiles, Trace}
+use Rattle.sasi_types.specs.declared.statement.Statement.TheVariants.{BeginCompact, Compact, CreateTable, CreateIndex, Fetch, Insert, OpenCursor, StepCompact, Update, Delete, Flush, Query, ShowFiles, Trace}
 use Rattle.sasi_layout.specs.Layout.{Layout, state_of}
 use Rattle.sasi_layout.specs.Statements.{known_in, moves_asked}
 use Rattle.sasi_layout.proofs.StatementLaws.{known_is}
@@ -29,6 +29,9 @@ no_change known (Insert table columns values time) is = cc
 no_change known (Update table time sets key value) is = cc
 no_change known (Delete table columns time key value) is = cc
 no_change known (Flush table) is = cc
+no_change known (Compact table) is = asked_none (lookup (λ applies. applies) (rules known (Compact table)))
+no_change known (BeginCompact table) is = asked_none (lookup (λ applies. applies) (rules known (BeginCompact table)))
+no_change known (StepCompact table units) is = asked_none (lookup (λ applies. applies) (rules known (StepCompact table units)))
 no_change known (Query select) is = asked_none (lookup (λ applies. applies) (rules known (Query select)))
 no_change known (Trace on) is = asked_none (lookup (λ applies. applies) (rules known (Trace on)))
 no_change known ShowFiles is = asked_none (lookup (λ applies. applies) (rules known ShowFiles))

@@ -26,7 +26,7 @@ pub record IsMadeInPart (moves : List Move) (old new : Layout) : Type 0 where
   pub parts : moves ≡ done ++ rest
   pub new_is : new ≡ after_moves done old
 
--- the statement is built, and one of those that may have a move
+-- The statement is built, and one of those that may have a move. COMPACT, BEGIN COMPACT and STEP COMPACT ask for no change of the tables, so they have none.
 abbrev pub asks_change : Statement → Bool
 asks_change (CreateTable table columns keys) = true
 asks_change (CreateIndex name table column class options stepped) = not stepped

@@ -38,7 +38,7 @@ pub fn step(contents: &mut Contents, statement: Statement) -> Result<(), AllocEr
     make(contents, prepared)
 }
 
-// Whether the statement may have a move.
+// Whether the statement may have a move. Those on compactions have none here, since a layout has no running ones.
 fn asks_change(statement: &Statement) -> bool
     ensures { result ≡ asks_change statement.now }
 {
@@ -67,6 +67,7 @@ fn make(contents: &mut Contents, prepared: Prepared) -> Result<(), AllocError>
         Prepared::Write(mutation) => write(contents, mutation),
         Prepared::Flush(table) => flush_unless_empty(contents, table),
         Prepared::Answered(_)
+        | Prepared::Compact(_)
         | Prepared::Select(_)
         | Prepared::Trace(_)
         | Prepared::Files

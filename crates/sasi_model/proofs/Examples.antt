@@ -8,13 +8,14 @@ use Rattle.sasi_types.specs.declared.literal.Number.TheVariants.{Fits, Wide}
 use Rattle.sasi_types.specs.declared.mode.Mode.TheVariants as modes
 use Rattle.sasi_types.specs.declared.relation.Test.TheVariants as tests
 use Rattle.sasi_types.specs.declared.rule.Rule.TheVariants.{Whole as WholeText, Words}
-use Rattle.sasi_types.specs.declared.statement.Statement.TheVariants.{CreateTable, CreateIndex, Insert, Update, Delete, Query, OpenCursor, Fetch, StepIndex}
+use Rattle.sasi_types.specs.declared.statement.Statement.{Statement}
+use Rattle.sasi_types.specs.declared.statement.Statement.TheVariants.{CreateTable, CreateIndex, Insert, Update, Delete, Query, OpenCursor, Fetch, Compact, BeginCompact, StepCompact, StepIndex}
 use Rattle.sasi_model.specs.Pieces.{Whole, Unfinished, pieces}
 use Rattle.sasi_model.specs.Tokens.{Word, QuotedName, Quoted, Integer, Uuid, Open, Close, Comma, Star, Equal, Less, LessEqual, More, MoreEqual, Colon, OpenBrace, CloseBrace, Semicolon, Unknown, tokens, uuid_in_front, other_lexeme, lexeme, is_separator}
 use Rattle.sasi_model.specs.FormReader.{read_items}
 use Rattle.sasi_model.specs.Abbreviations.{first_refusal}
 use Rattle.sasi_model.specs.Indexes.{IndexOption, class_given, default_name, index_class, index_name, is_allowed, mode_given, rule_given}
-use Rattle.sasi_model.specs.Refusals.{Refusal, index_rules}
+use Rattle.sasi_model.specs.Refusals.{Refusal, index_rules, rules}
 use Rattle.sasi_model.specs.State.{Definition}
 use Rattle.sasi_model.specs.Parsers.{Parses, FailsAt, grammar_parser}
 
@@ -319,3 +320,37 @@ sparse_text = refl
 
 allowed_index : index_refused None (codes "a") index_class [] ≡ None
 allowed_index = refl
+
+-- ---- COMPACT
+
+-- the refusal of a statement beside that table
+abbrev compact_refused : Statement → Option Refusal
+compact_refused statement = first_refusal (rules (record { tables = indexed ∷ []; max_timestamp = 0 }) statement)
+
+compact_of_a_table : compact_refused (Compact (codes "t")) ≡ None
+compact_of_a_table = refl
+
+compact_of_no_table : compact_refused (Compact (codes "i")) ≡ Some (4, codes "NoTable i")
+compact_of_no_table = refl
+
+begin_of_no_table : compact_refused (BeginCompact (codes "T")) ≡ Some (4, codes "NoTable T")
+begin_of_no_table = refl
+
+most_units : compact_refused (StepCompact (codes "t") (Fits (pos 2147483647))) ≡ None
+most_units = refl
+
+units_above_the_most : compact_refused (StepCompact (codes "t") (Fits (pos 2147483648))) ≡ Some (9, codes "NumberRange STEP")
+units_above_the_most = refl
+
+no_units : compact_refused (StepCompact (codes "t") (Fits (pos 0))) ≡ Some (9, codes "NumberRange STEP")
+no_units = refl
+
+fewer_units_than_none : compact_refused (StepCompact (codes "t") (Fits (negsuc 0))) ≡ Some (9, codes "NumberRange STEP")
+fewer_units_than_none = refl
+
+units_that_are_wide : compact_refused (StepCompact (codes "t") Wide) ≡ Some (9, codes "NumberRange STEP")
+units_that_are_wide = refl
+
+-- the table comes first
+no_units_of_no_table : compact_refused (StepCompact (codes "u") (Fits (pos 0))) ≡ Some (4, codes "NoTable u")
+no_units_of_no_table = refl

@@ -305,6 +305,9 @@ NoCursor cursor = (23, codes "NoCursor " ++ cursor)
 abbrev pub FetchRange : Refusal
 FetchRange = (9, codes "NumberRange FETCH")
 
+abbrev pub StepRange : Refusal
+StepRange = (9, codes "NumberRange STEP")
+
 abbrev pub ScriptEnds : Refusal
 ScriptEnds = (25, codes "Unfinished")
 

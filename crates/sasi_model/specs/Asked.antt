@@ -53,7 +53,8 @@ write_asked known table time key change =
 abbrev pub define_of : ℕ → Option Index → Asked
 define_of n index = option_map_or (Defines n) index NoChange
 
--- what a statement asks that isn't refused; one that isn't built asks nothing
+-- What a statement asks that isn't refused; one that isn't built asks nothing. COMPACT, BEGIN COMPACT and STEP COMPACT ask for no change: what they do to the
+-- files is up to the running compactions, which are no part of the state.
 abbrev pub statement_asks : Known → Statement → Asked
 statement_asks known (CreateTable table columns keys) = option_map_or (λ key. Creates (record { name = table; columns = columns; key = key; indexes = [] })) (primary_key columns keys) NoChange
 statement_asks known (CreateIndex name table column class options stepped) = asked_of 1 table (λ n d. define_of n (index_given d name table column options)) known.tables

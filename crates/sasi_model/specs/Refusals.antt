@@ -18,7 +18,7 @@ use Rattle.sasi_types.specs.declared.relation.Relation.{Relation}
 use Rattle.sasi_types.specs.declared.statement.Statement.{Statement}
 use Rattle.sasi_types.specs.declared.statement.Select.{Select}
 use Rattle.sasi_types.specs.declared.class.Class.{Class}
-use Rattle.sasi_types.specs.declared.statement.Statement.TheVariants.{CreateTable, CreateIndex, Insert, Update, Delete, Query, Flush, Trace, ShowFiles, OpenCursor, Fetch, CloseCursor}
+use Rattle.sasi_types.specs.declared.statement.Statement.TheVariants.{CreateTable, CreateIndex, Insert, Update, Delete, Query, Flush, Compact, BeginCompact, StepCompact, Trace, ShowFiles, OpenCursor, Fetch, CloseCursor}
 use Rattle.sasi_model.specs.Pieces.{Piece, Whole, TooLong, Unfinished}
 use Rattle.sasi_model.specs.Tokens.{same}
 use Rattle.sasi_model.specs.Parsers.{Parsed, Parses, FailsAt, Parser, grammar_parser}
@@ -48,6 +48,9 @@ is_built (Update table time sets key value) = true
 is_built (Delete table columns time key value) = true
 is_built (Query select) = true
 is_built (Flush table) = true
+is_built (Compact table) = true
+is_built (BeginCompact table) = true
+is_built (StepCompact table units) = true
 is_built (Trace on) = true
 is_built ShowFiles = true
 is_built (OpenCursor cursor select) = true
@@ -226,9 +229,10 @@ delete_rules max_timestamp table columns key value time (Some d) =
     map (no_regular_column d) columns ++ no_column d key ∷ (repeat_rules [] columns ++ wrong_where d key value ∷ number_range d key value
     ∷ (other_key d key ++ key_empty d key value ∷ value_too_long d key value ∷ time_rules max_timestamp time))
 
-abbrev pub flush_rules : List ℕ → Option Definition → List RefusalRule
-flush_rules table None = (true, (4, codes "NoTable " ++ table)) ∷ []
-flush_rules table (Some d) = []
+-- the table is there; FLUSH, COMPACT and BEGIN COMPACT have no other rule
+abbrev pub table_rules : List ℕ → Option Definition → List RefusalRule
+table_rules table None = (true, (4, codes "NoTable " ++ table)) ∷ []
+table_rules table (Some d) = []
 
 -- ---- SELECT
 
@@ -258,7 +262,7 @@ search_rules = (λ d r. key_empty d r.column r.value) ∷ (λ d r. value_too_lon
 abbrev pub relation_rules : List (Definition → Relation → RefusalRule) → Definition → List Relation → List RefusalRule
 relation_rules rules d relations = flat_map (λ rule. map (rule d) relations) rules
 
--- a number of rows
+-- a number of rows, or of the units of a task
 abbrev pub is_count : Number → Bool
 is_count (Fits z) = int_le (pos 1) z && int_le z (pos (2 ^ 31 - 1))
 is_count Wide = false
@@ -301,6 +305,16 @@ cursor_rules names (OpenCursor cursor select) =
 cursor_rules names (Fetch cursor count) = (not (list_any (same cursor) names), (23, codes "NoCursor " ++ cursor)) ∷ []
 cursor_rules names (CloseCursor cursor) = (not (list_any (same cursor) names), (23, codes "NoCursor " ++ cursor)) ∷ []
 cursor_rules names statement = []
+
+-- ---- STEP COMPACT
+
+-- a STEP of units by their number
+abbrev pub step_range : Number → RefusalRule
+step_range units = (not (is_count units), (9, codes "NumberRange STEP"))
+
+-- the rule of the table comes before that of the units
+abbrev pub step_rules : List ℕ → Number → Option Definition → List RefusalRule
+step_rules table units d = table_rules table d ++ step_range units ∷ []
 
 -- ---- CREATE CUSTOM INDEX
 
@@ -349,7 +363,10 @@ rules known (Insert table columns values time) = insert_rules known.max_timestam
 rules known (Update table time sets key value) = update_rules known.max_timestamp table sets key value time (definition_of table known.tables)
 rules known (Delete table columns time key value) = delete_rules known.max_timestamp table columns key value time (definition_of table known.tables)
 rules known (Query select) = select_rules select (definition_of select.table known.tables)
-rules known (Flush table) = flush_rules table (definition_of table known.tables)
+rules known (Flush table) = table_rules table (definition_of table known.tables)
+rules known (Compact table) = table_rules table (definition_of table known.tables)
+rules known (BeginCompact table) = table_rules table (definition_of table known.tables)
+rules known (StepCompact table units) = step_rules table units (definition_of table known.tables)
 rules known (OpenCursor cursor select) = answer_rules select (definition_of select.table known.tables)
 rules known (Fetch cursor count) = fetch_range count ∷ []
 rules known statement = []

@@ -56,10 +56,10 @@ abbrev pub without_cursor : List ℕ → List Cursor → List Cursor
 without_cursor name [] = []
 without_cursor name (c ∷ cs) = if same name c.name then without_cursor name cs else c ∷ without_cursor name cs
 
--- how many rows a FETCH asks for
-abbrev pub fetch_count : Number → ℕ
-fetch_count (Fits (pos n)) = n
-fetch_count number = 0
+-- how many rows a FETCH asks for, or units a STEP; 0 for a negative number and a wide one, which are refused
+abbrev pub count_asked : Number → ℕ
+count_asked (Fits (pos n)) = n
+count_asked number = 0
 
 -- ---- the tail of a reply
 
@@ -106,12 +106,12 @@ abbrev pub ok_turn : SessionState → Turn
 ok_turn session = record { session = session; reply = line (codes "ok"); tail = NoTail; refused = None }
 
 -- A statement that isn't refused. OPEN makes a cursor of the rows that the SELECT has now; FETCH gives the first of those that are left; CLOSE ends the cursor.
--- A SELECT tells what it checked while TRACE is on, and SHOW FILES tells of the files.
+-- A SELECT tells what it checked while TRACE is on, and SHOW FILES tells of the files. The others leave the session, in which no task stands.
 abbrev pub taken_turn : SessionState → State → Statement → Turn
 taken_turn session s (OpenCursor cursor select) = ok_turn (record session { cursors = session.cursors ++ record { name = cursor; rows = rows_selected s select } ∷ [] })
 taken_turn session s (Fetch cursor count) = record {
-  session = record session { cursors = rows_given cursor (fetch_count count) session.cursors };
-  reply = rows_lines (take (fetch_count count) (rows_left cursor session.cursors));
+  session = record session { cursors = rows_given cursor (count_asked count) session.cursors };
+  reply = rows_lines (take (count_asked count) (rows_left cursor session.cursors));
   tail = NoTail;
   refused = None;
 }

@@ -1,6 +1,6 @@
 -- The step of one piece, by a parser: the state after it, and the reply. A write is merged into the partition of its key. A refused piece
 -- leaves the state unchanged.
-use Rattle.std.specs.Prelude.{ℕ, pos, codes, ◌+◌, suc, zero, List, [], ◌∷◌, ◌++◌, length, map, Option, None, Some, slice_get, is_some, if◌then◌else◌}
+use Rattle.std.specs.Prelude.{ℕ, pos, codes, ◌+◌, suc, zero, List, [], ◌∷◌, ◌++◌, length, map, Option, None, Some, slice_get}
 use Rattle.std.specs.List.{filter_map, find, range_with_len, zip}
 use Rattle.std.specs.Option.{option_and_then, option_map, option_map_or}
 use Rattle.std.specs.FinMap as map_
@@ -16,7 +16,7 @@ use Rattle.sasi_types.specs.declared.value.Value.TheVariants.{Text}
 use Rattle.sasi_types.specs.Value.{stored}
 use Rattle.sasi_types.specs.declared.statement.Select.{Select}
 use Rattle.sasi_types.specs.declared.statement.Statement.{Statement}
-use Rattle.sasi_types.specs.declared.statement.Statement.TheVariants.{CreateTable, CreateIndex, Insert, Update, Delete, Query, Flush, Trace}
+use Rattle.sasi_types.specs.declared.statement.Statement.TheVariants.{CreateTable, CreateIndex, Insert, Update, Delete, Query, Flush, Compact, BeginCompact, StepCompact, Trace}
 use Rattle.sasi_model.specs.Pieces.{Piece}
 use Rattle.sasi_model.specs.Cells.{Cells, Partition, value_at}
 use Rattle.sasi_model.specs.State.{Column, Definition, Index, Table, State, decorated, table_of, with_table, position_in, number_of_column, key_column, apply, max_timestamp}
@@ -111,7 +111,8 @@ written s table time key change = with_table table (λ t. applied (option_and_th
 abbrev pub index_given : Definition → Option (List ℕ) → List ℕ → List ℕ → List IndexOption → Option Index
 index_given d name table column options = index_made (index_name name table column) (number_of_column d column) (type_of_column d column) options
 
--- an UPDATE writes the cells alone; a SELECT, a FLUSH and TRACE write nothing, and no other statement is built
+-- An UPDATE writes the cells alone. A SELECT, TRACE, SHOW FILES and statements on cursors write nothing. FLUSH, COMPACT, BEGIN COMPACT and STEP COMPACT change
+-- only how the rows are stored. No other statement is built.
 abbrev pub tables_after : State → Statement → List Table
 tables_after s (CreateTable table columns keys) =
     option_map_or (λ key. s.tables ++ empty_table (record { name = table; columns = columns; key = key; indexes = [] }) ∷ []) (primary_key columns keys) s.tables
@@ -133,6 +134,9 @@ answer_of s (Insert table columns values time) = line (codes "ok")
 answer_of s (Update table time sets key value) = line (codes "ok")
 answer_of s (Delete table columns time key value) = line (codes "ok")
 answer_of s (Flush table) = line (codes "ok")
+answer_of s (Compact table) = line (codes "ok")
+answer_of s (BeginCompact table) = line (codes "ok")
+answer_of s (StepCompact table units) = line (codes "ok")
 answer_of s (Trace on) = line (codes "ok")
 answer_of s statement = []
 

@@ -77,6 +77,13 @@ impl PlanCandidates {
         }
     }
 
+    /// The view.
+    pub(crate) fn view(&self) -> &View
+        ensures { result.now ≡ self.now.view }
+    {
+        &self.view
+    }
+
     /// The view, to be given back.
     pub(crate) fn into_view(self) -> View
         ensures { result ≡ self.view }

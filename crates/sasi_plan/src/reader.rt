@@ -176,6 +176,13 @@ impl Reader {
         self.rows.checked()
     }
 
+    /// The view.
+    pub fn view(&self) -> &View
+        ensures { result.now ≡ self.now.rows.candidates.view }
+    {
+        self.rows.candidates().view()
+    }
+
     /// The view, to be given back.
     pub fn end(self) -> View
         ensures { result ≡ self.rows.candidates.view }

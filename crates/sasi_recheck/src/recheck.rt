@@ -114,6 +114,13 @@ impl<C: Candidates + Drop> Recheck<C> {
         &self.filter
     }
 
+    /// The candidates, to look at.
+    pub fn candidates(&self) -> &C
+        ensures { result.now ≡ self.now.candidates }
+    {
+        &self.candidates
+    }
+
     /// The candidates that are left.
     pub fn into_candidates(self) -> C
         ensures { result ≡ self.candidates }

@@ -29,8 +29,9 @@ use Rattle.sasi_manifest.specs.OpenManifest as manifests
 use Rattle.sasi_folder.proofs.FolderLaws.{kinds_apart}
 use Rattle.sasi_folder.specs.FolderContents.{FolderHolds, IsFresh}
 use Rattle.sasi_layout.specs.Layout.{state_of}
-use Rattle.sasi_layout.specs.Kept.{HasKept}
-use Rattle.sasi_layout.specs.Serving.{CanChange, Serves}
+use Rattle.sasi_layout.proofs.KeptLaws.{none_aside}
+use Rattle.sasi_layout.specs.Kept.{HasKept, nothing}
+use Rattle.sasi_layout.specs.Serving.{CanChange, HasExactlyBeside, Serves}
 use Rattle.sasi_layout.specs.Shape.{HasShape, new_layout}
 use Rattle.sasi_recover.specs.declared.opened.Numbers.{Numbers}
 use Rattle.sasi_recover.specs.declared.opened.Opened.{Opened}
@@ -201,8 +202,14 @@ module _ (p : Partitioner) (opened : Opened) (first : IsFirst p opened) where
     manifest_usable = manifest_usable;
     log_usable = log_usable;
     stands = λ told. subst (λ n. manifests.ManifestStands c n opened.manifest.at opened.manifest.listing) (sym first.1) stands;
-    kept = rw (first.1, listing_is) kept;
+    aside = nothing;
+    aside_are = none_aside _;
+    exactly = rw (first.1, listing_is) kept;
   }
+
+  -- no other file is there
+  pub first_exactly : (c : View) → ((folder : Folder) → c.files ≡ Some folder → HasKept (record { manifest = 1; listing = new_listing p }) folder) → HasExactlyBeside c nothing (opened_store opened)
+  first_exactly c kept = rw (first.1, listing_is) kept
 
   no_time : 0 ≡ max_timestamp (state_of (new_layout p))
   unfolding max_timestamp

@@ -26,10 +26,11 @@ use Rattle.sasi_manifest.proofs.Laws.{manifest_stays}
 use Rattle.sasi_folder.proofs.FolderLaws.{kinds_apart, segments_kept}
 use Rattle.sasi_folder.specs.Opens.{CanOpen, KeepsPartitioner, KeepsUnder, Opens}
 use Rattle.sasi_folder.specs.FolderContents.{HasSegments, IsFresh, IsSealed, types_listed}
-use Rattle.sasi_layout.specs.Kept.{HasKept}
+use Rattle.sasi_layout.proofs.KeptLaws.{none_aside}
+use Rattle.sasi_layout.specs.Kept.{HasKept, nothing}
 use Rattle.sasi_layout.specs.Layout.{Layout, listed_of, listing_of, state_of, used_in}
 use Rattle.sasi_model.specs.State.{max_timestamp}
-use Rattle.sasi_layout.specs.Serving.{AreNumbered, CanChange, Serves}
+use Rattle.sasi_layout.specs.Serving.{AreNumbered, CanChange, HasExactlyBeside, Serves}
 use Rattle.sasi_layout.specs.Shape.{HasShape, IsOfShape, ShapeOf, new_layout}
 use Rattle.sasi_manifest.specs.Damages.{NoFalseManifestDamage}
 use Rattle.sasi_manifest.specs.Format.{IsManifest}
@@ -200,6 +201,30 @@ module _ (a c : View) (m : ManifestState) (wanted : List FileName) (time : ℕ) 
 
   -- ---- whatever the folder holds
 
+  kept_now : (e : View) → Changes Same c e → (folder : Folder) → e.files ≡ Some folder → HasKept (record { manifest = m.number; listing = m.listing }) folder
+  kept_now e same folder files = has_kept (record { manifest = m.number; listing = m.listing }) folder
+      (here (manifest_name m.number) (stays (manifest_name m.number) (keeps_manifest m.number m.listing.floor m.listing.last wanted) read.there))
+      (here (seal_name m.number) (stays (seal_name m.number) (keeps_seal m.number m.listing.floor m.listing.last wanted) read.sealed))
+      (λ segment above below. here (log_name segment) (checked.live segment above below))
+      (λ name is. (
+      let has = in_list a names m wanted lists read listed name is in
+      here name (stays name (keeps_listed m.number m.listing.floor m.listing.last wanted name has) (checked.there name has))
+      ))
+      (λ name other. sym (is_here name) ∙ checked.gone name (keeps_is m.number m.listing wanted name (listed.listed name) ∙ other))
+    where
+      is_here : (name : FileName) → contents c name ≡ get folder name
+      is_here name = sym (contents_same c e name same) ∙ ap (λ (o : Option Folder). contents_in o name) files
+
+      here : (name : FileName) → IsThere c name → IsSome (get folder name)
+      here name there = subst (λ (o : Option Bytes). IsSome o) (is_here name) (there (told_before Same c e same (ap (λ (o : Option Folder). is_some o) files)))
+
+      stays : (name : FileName) → kept_with m wanted name ≡ true → IsThere a name → IsThere c name
+      stays name is there = there_where a c (Deletes (kept_with m wanted)) name checked.deletes (contents_left a c (kept_with m wanted) name is checked.deletes) there
+
+  -- no other file is there
+  pub opened_exactly : (e : View) (opened : Opened) → opened.manifest ≡ m → Changes Same c e → HasExactlyBeside e nothing (opened_store opened)
+  opened_exactly e opened manifest_is same = rw manifest_is (kept_now e same)
+
   -- the store can make changes
   pub opened_ready : (e : View) (opened : Opened) (state : ReplayState) → opened.manifest ≡ m → opened.tables.items ≡ state.tables → used_numbers opened.numbers ≡ used_in m.number m.listing → opened.greatest ≡ max time state.max_timestamp
       → opened.log.file ≡ log_name m.listing.last → IsTrue opened.log.usable → Changes Same c e → Reaches e (log_name m.listing.last) (opened.log.at + 1) → IsReplayOf m.listing state → CanChange e (opened_store opened)
@@ -222,7 +247,9 @@ module _ (a c : View) (m : ManifestState) (wanted : List FileName) (time : ℕ) 
     manifest_usable = read.usable;
     log_usable = log_usable;
     stands = λ told. manifest_now e same told;
-    kept = kept_now e same;
+    aside = nothing;
+    aside_are = none_aside _;
+    exactly = kept_now e same;
   })
     where
       manifest_now : (e : View) → Changes Same c e → IsTold e → ManifestStands e m.number m.at m.listing
@@ -232,26 +259,6 @@ module _ (a c : View) (m : ManifestState) (wanted : List FileName) (time : ℕ) 
           let bytes = bytes_there a folder.0 (manifest_name m.number) folder.1 read.there in
           manifest_stays c e m.number m.at m.listing (λ bytes. file_durable_same c e (manifest_name m.number) bytes same)
           (manifest_stands a c m.number m.listing wanted checked.deletes m.at (read.stands bytes.0 told_a (durable_kept a sound durable (manifest_name m.number) bytes.0 refl (reads_of a folder.0 (manifest_name m.number) bytes.0 folder.1 bytes.1))))
-
-      kept_now : (e : View) → Changes Same c e → (folder : Folder) → e.files ≡ Some folder → HasKept (record { manifest = m.number; listing = m.listing }) folder
-      kept_now e same folder files = has_kept (record { manifest = m.number; listing = m.listing }) folder
-          (here (manifest_name m.number) (stays (manifest_name m.number) (keeps_manifest m.number m.listing.floor m.listing.last wanted) read.there))
-          (here (seal_name m.number) (stays (seal_name m.number) (keeps_seal m.number m.listing.floor m.listing.last wanted) read.sealed))
-          (λ segment above below. here (log_name segment) (checked.live segment above below))
-          (λ name is. (
-          let has = in_list a names m wanted lists read listed name is in
-          here name (stays name (keeps_listed m.number m.listing.floor m.listing.last wanted name has) (checked.there name has))
-          ))
-          (λ name other. sym (is_here name) ∙ checked.gone name (keeps_is m.number m.listing wanted name (listed.listed name) ∙ other))
-        where
-          is_here : (name : FileName) → contents c name ≡ get folder name
-          is_here name = sym (contents_same c e name same) ∙ ap (λ (o : Option Folder). contents_in o name) files
-
-          here : (name : FileName) → IsThere c name → IsSome (get folder name)
-          here name there = subst (λ (o : Option Bytes). IsSome o) (is_here name) (there (told_before Same c e same (ap (λ (o : Option Folder). is_some o) files)))
-
-          stays : (name : FileName) → kept_with m wanted name ≡ true → IsThere a name → IsThere c name
-          stays name is there = there_where a c (Deletes (kept_with m wanted)) name checked.deletes (contents_left a c (kept_with m wanted) name is checked.deletes) there
 
   -- what was read of the folder
   pub opened_opens : (e : View) (state : ReplayState) (folder : Folder) → a.files ≡ Some folder → IsSealed folder m.number → ReadsAll c m.listing state → Opens folder

@@ -8,7 +8,8 @@ ghost use Rattle.sasi_host.specs.View.{IsAbsent, IsTold, ListCauses};
 ghost use Rattle.sasi_host.specs.Disk.{Changes, IsFolderSynced, Lists, Same, Each};
 ghost use Rattle.sasi_gated.specs.Causes.{ReadingCauses};
 ghost use Rattle.sasi_folder.specs.FolderContents.{IsFresh};
-ghost use Rattle.sasi_layout.specs.Serving.{CanChange, Serves};
+ghost use Rattle.sasi_layout.specs.Kept.{nothing};
+ghost use Rattle.sasi_layout.specs.Serving.{CanChange, HasExactlyBeside, Serves};
 ghost use Rattle.sasi_layout.specs.Shape.{new_layout};
 ghost use Rattle.sasi_recover.specs.NewFolder.{IsFreshOrNew, ReportsForeign, NoFalseFreshDamage, is_initial};
 ghost use Rattle.sasi_recover.specs.OpenedFolder.{AnyFolderChange, IsTimed, opened_store};
@@ -36,6 +37,7 @@ pub fn create_store<H: Host>(
     ensures tables { IfOk result (λ opened. AreMaps opened.manifest.listing opened.tables.items) }
     ensures timed { IfOk result (λ opened. IsTimed (opened_store opened)) }
     ensures ready { IfOk result (λ opened. CanChange (H.view host.new) (opened_store opened)) }
+    ensures exactly { IfOk result (λ opened. HasExactlyBeside (H.view host.new) nothing (opened_store opened)) }
     ensures serves { IfOk result (λ opened. IsTold (H.view host.old) → Each (H.view host.old) IsFresh → Serves (H.view host.new) (opened_store opened) (new_layout partitioner)) }
     ensures any_moment { Each (H.view host.old) IsFresh → Changes (IsFreshOrNew partitioner) (H.view host.old) (H.view host.new) }
     ensures firsts { OnOk result (All (λ name. is_initial name ≡ true) names.now) }
@@ -84,6 +86,7 @@ fn clear_and_create<H: Host>(
     ensures tables { IfOk result (λ opened. AreMaps opened.manifest.listing opened.tables.items) }
     ensures timed { IfOk result (λ opened. IsTimed (opened_store opened)) }
     ensures ready { IfOk result (λ opened. CanChange (H.view host.new) (opened_store opened)) }
+    ensures exactly { IfOk result (λ opened. HasExactlyBeside (H.view host.new) nothing (opened_store opened)) }
     ensures serves { IfOk result (λ opened. IsTold (H.view host.old) → Each (H.view host.old) IsFresh → Serves (H.view host.new) (opened_store opened) (new_layout partitioner)) }
     ensures any_moment { Each (H.view host.old) IsFresh → Changes (IsFreshOrNew partitioner) (H.view host.old) (H.view host.new) }
     ensures changes { Changes AnyFolderChange (H.view host.old) (H.view host.new) }
@@ -106,6 +109,7 @@ fn create_files<H: Host>(
     ensures tables { IfOk result (λ opened. AreMaps opened.manifest.listing opened.tables.items) }
     ensures timed { IfOk result (λ opened. IsTimed (opened_store opened)) }
     ensures ready { IfOk result (λ opened. CanChange (H.view host.new) (opened_store opened)) }
+    ensures exactly { IfOk result (λ opened. HasExactlyBeside (H.view host.new) nothing (opened_store opened)) }
     ensures serves { IfOk result (λ opened. IsTold (H.view host.old) → Each (H.view host.old) IsFresh → Serves (H.view host.new) (opened_store opened) (new_layout partitioner)) }
     ensures any_moment { Each (H.view host.old) IsFresh → Changes (IsFreshOrNew partitioner) (H.view host.old) (H.view host.new) }
     ensures changes { Changes AnyFolderChange (H.view host.old) (H.view host.new) }

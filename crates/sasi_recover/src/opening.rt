@@ -15,7 +15,8 @@ ghost use Rattle.sasi_types.specs.declared.class.Class.{Class as AClass};
 ghost use Rattle.sasi_analyzers.specs.Kits.{has_class};
 ghost use Rattle.sasi_layout.specs.Classes.{KnowsClasses};
 ghost use Rattle.sasi_layout.specs.Layout.{Layout};
-ghost use Rattle.sasi_layout.specs.Serving.{CanChange, Serves};
+ghost use Rattle.sasi_layout.specs.Kept.{nothing};
+ghost use Rattle.sasi_layout.specs.Serving.{CanChange, HasExactlyBeside, Serves};
 ghost use Rattle.sasi_layout.specs.Shape.{HasShape, ShapeOf, new_layout};
 ghost use Rattle.sasi_recover.specs.Faults.{IsDifference, OnDiffers, OnMissing, OnOpenDamage, OpenCauses, TellsDifference, TellsMissing};
 ghost use Rattle.sasi_recover.specs.KeptListed.{KeepsListed};
@@ -45,6 +46,7 @@ pub fn open<H: Host>(
     asked: Option<Partitioner>,
 ) -> Result<Opened, OpenFault>
     ensures ready { IfOk result (λ opened. CanChange (H.view host.new) (opened_store opened)) }
+    ensures exactly { IfOk result (λ opened. HasExactlyBeside (H.view host.new) nothing (opened_store opened)) }
     ensures tables { IfOk result (λ opened. AreMaps opened.manifest.listing opened.tables.items) }
     ensures timed { IfOk result (λ opened. IsTimed (opened_store opened)) }
     ensures serves { (folder : Folder) (l : Layout) → (H.view host.old).files ≡ Some folder → ShapeOf asked folder l → IfOk result (λ opened. Serves (H.view host.new) (opened_store opened) l) }
@@ -77,6 +79,7 @@ fn open_new<H: Host>(
     requires sorted { IsStrictlySortedBy name_cmp names.now }
     ensures empty { IfOk result (λ opened. opened.manifest.listing.tables ≡ []) }
     ensures ready { IfOk result (λ opened. CanChange (H.view host.new) (opened_store opened)) }
+    ensures exactly { IfOk result (λ opened. HasExactlyBeside (H.view host.new) nothing (opened_store opened)) }
     ensures tables { IfOk result (λ opened. AreMaps opened.manifest.listing opened.tables.items) }
     ensures timed { IfOk result (λ opened. IsTimed (opened_store opened)) }
     ensures serves { IfOk result (λ opened. IsTold (H.view host.old) → Each (H.view host.old) IsFresh → Serves (H.view host.new) (opened_store opened) (new_layout (unwrap_or asked partitioner.Lead8))) }
@@ -109,6 +112,7 @@ fn open_sealed<H: Host>(
     requires folder_durable { IsFolderDurable (H.view host.old) }
     requires sealed { IsThere (H.view host.old) (seal_name number) }
     ensures ready { IfOk result (λ opened. CanChange (H.view host.new) (opened_store opened)) }
+    ensures exactly { IfOk result (λ opened. HasExactlyBeside (H.view host.new) nothing (opened_store opened)) }
     ensures tables { IfOk result (λ opened. AreMaps opened.manifest.listing opened.tables.items) }
     ensures timed { IfOk result (λ opened. IsTimed (opened_store opened)) }
     ensures serves { (folder : Folder) (l : Layout) (logs : List (List Mutation)) → (H.view host.old).files ≡ Some folder → l.used.manifest ≡ number → HasShape folder l logs → IfOk result (λ opened. Serves (H.view host.new) (opened_store opened) l) }

@@ -14,7 +14,8 @@ ghost use Rattle.sasi_folder.specs.Damages.{ShowsManifestOrListed};
 ghost use Rattle.sasi_folder.specs.Opens.{Opens};
 ghost use Rattle.sasi_folder.specs.FolderContents.{IsSealed};
 ghost use Rattle.sasi_layout.specs.Layout.{Layout, used_in};
-ghost use Rattle.sasi_layout.specs.Serving.{CanChange, Serves};
+ghost use Rattle.sasi_layout.specs.Kept.{nothing};
+ghost use Rattle.sasi_layout.specs.Serving.{CanChange, HasExactlyBeside, Serves};
 ghost use Rattle.sasi_layout.specs.Shape.{HasShape};
 ghost use Rattle.sasi_recover.specs.KeptListed.{KeepsAll, kept_under};
 ghost use Rattle.sasi_recover.specs.OpenedFolder.{AnyFolderChange, IsTimed, opened_store, used_numbers};
@@ -73,6 +74,7 @@ pub fn open_listed<H: Host>(
     requires read { IsManifestRead (H.view host.old) manifest }
     ensures listing { IfOk result (λ opened. opened.manifest.listing ≡ manifest.listing) }
     ensures ready { IfOk result (λ opened. CanChange (H.view host.new) (opened_store opened)) }
+    ensures exactly { IfOk result (λ opened. HasExactlyBeside (H.view host.new) nothing (opened_store opened)) }
     ensures tables { IfOk result (λ opened. AreMaps opened.manifest.listing opened.tables.items) }
     ensures timed { IfOk result (λ opened. IsTimed (opened_store opened)) }
     ensures serves { (folder : Folder) (l : Layout) (logs : List (List Mutation)) → (H.view host.old).files ≡ Some folder → l.used.manifest ≡ manifest.number → HasShape folder l logs → IfOk result (λ opened. Serves (H.view host.new) (opened_store opened) l) }

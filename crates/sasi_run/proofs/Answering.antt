@@ -190,7 +190,7 @@ module _ {kinds : List Class} (session : Session) (later : Store) (a b d : View)
     ran = λ w serves.
         (let is = done.answers w serves in
         record {
-          serves = rw store_is (serves_still b d later _ emits.files emits.image is.serves);
+          serves = rw store_is (serves_still b d later _ emits.files emits.image ready is.serves);
           shown = subst (λ (r : List ℕ). Appends a.emitted d.emitted r) (same ∙ is.reply_is ∙ sym (append-nil (steps.reply w piece)))
               (subst (λ (l : Option (List ℕ)). Appends l d.emitted bytes) done.change.emitted all);
           count = count ∙ ap (counted_outcome session.refused) is.outcome_is ∙ counts session.refused (refused_by grammar_parser w.session (state_of w.layout) piece) small;

@@ -1,6 +1,7 @@
 -- Which calls failed in a run, part by part.
-use Rattle.std.proofs.Common.{◌≢◌, ◌≡◌, ◌==◌, ℕ, Bool, true, false, if◌then◌else◌, refl, subst, ◌∙◌, arith, Ok, Err, Some}
+use Rattle.std.proofs.Common.{◌≢◌, ◌≡◌, ◌⊎◌, ◌==◌, inl, inr, ℕ, Bool, true, false, if◌then◌else◌, refl, subst, ◌∙◌, arith, Ok, Err, Some}
 use Rattle.sasi_host.specs.declared.damage.Damage.{Damage}
+use Rattle.sasi_host.specs.declared.name.FileName.{FileName}
 use Rattle.sasi_host.specs.Names.{Folder}
 use Rattle.sasi_host.specs.View.{DiskCauses, FailedAtLast, FailsOnlyAsTold, OutCauses, Rose, SourceCauses, SourceView, View}
 use Rattle.sasi_host.proofs.FailingLaws.{failed_behind, read_told_none, read_told_on, told_none, told_on}
@@ -11,6 +12,7 @@ use Rattle.sasi_recover.specs.declared.fault.OpenFault.TheVariants as open_fault
 use Rattle.sasi_tables.specs.Faults.{OnStepDamage, StepCauses}
 use Rattle.sasi_tables.specs.declared.fault.StepFault.{StepFault}
 use Rattle.sasi_tables.specs.declared.fault.StepFault.TheVariants as step_fault
+use Rattle.sasi_store.specs.HeldDamage.{ShowsHeld}
 use Rattle.sasi_run.specs.declared.session.Stop.{Stop}
 use Rattle.sasi_run.specs.declared.session.Stop.TheVariants.{Disk, Memory, Output, Corrupt, Spent, Missing}
 use Rattle.sasi_run.specs.declared.status.Status.{Status}
@@ -43,14 +45,31 @@ stops_behind Output a b c none stops = record {
   out = failed_behind a.out_faults b.out_faults c.out_faults c.failed_last none.out stops.out;
 }
 
+-- whichever files are held
+any_held : {held : FileName → Bool} {folder : Folder} {damage : Damage} → FolderShows folder damage ⊎ ShowsHeld held folder damage → FolderShows folder damage ⊎ ShowsHeld (λ name. true) folder damage
+any_held (inl shown) = inl shown
+any_held (inr shown) = inr (record {
+  number = shown.number;
+  sealed = shown.sealed;
+  bytes = shown.bytes;
+  there = shown.there;
+  listing = shown.listing;
+  manifest = shown.manifest;
+  table = shown.table;
+  listed = shown.listed;
+  files = shown.files;
+  present = λ name is. (refl, (shown.present name is).1);
+  shows = shown.shows;
+})
+
 -- a statement that wasn't done
-pub step_stops : {T : Type 0} (f : StepFault) (a b : View) → StepCauses {T = T} a b (Err f)
-    → ((folder : Folder) → b.files ≡ Some folder → OnStepDamage (FolderShows folder) f) → StopFaults (stop_of f) a b
-step_stops step_fault.Failed a b causes shows = record { disk = causes.failed refl; out = causes.out }
-step_stops step_fault.OutOfMemory a b causes shows = record { disk = causes.others (λ is. cc); out = causes.out }
-step_stops (step_fault.Damaged damage) a b causes shows = (record { disk = causes.others (λ is. cc); out = causes.out }, shows)
-step_stops (step_fault.NumbersSpent kind) a b causes shows = record { disk = causes.others (λ is. cc); out = causes.out }
-step_stops (step_fault.AnalyzerMissing class) a b causes shows = record { disk = causes.others (λ is. cc); out = causes.out }
+pub step_stops : {T : Type 0} (held : FileName → Bool) (f : StepFault) (a b : View) → StepCauses {T = T} a b (Err f)
+    → ((folder : Folder) → b.files ≡ Some folder → OnStepDamage (λ damage. FolderShows folder damage ⊎ ShowsHeld held folder damage) f) → StopFaults (stop_of f) a b
+step_stops held step_fault.Failed a b causes shows = record { disk = causes.failed refl; out = causes.out }
+step_stops held step_fault.OutOfMemory a b causes shows = record { disk = causes.others (λ is. cc); out = causes.out }
+step_stops held (step_fault.Damaged damage) a b causes shows = (record { disk = causes.others (λ is. cc); out = causes.out }, λ folder files. any_held (shows folder files))
+step_stops held (step_fault.NumbersSpent kind) a b causes shows = record { disk = causes.others (λ is. cc); out = causes.out }
+step_stops held (step_fault.AnalyzerMissing class) a b causes shows = record { disk = causes.others (λ is. cc); out = causes.out }
 
 -- and one that was
 pub step_went : {T : Type 0} (x : T) (a b : View) → StepCauses a b (Ok x) → NoneFailed a b

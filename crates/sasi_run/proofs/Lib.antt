@@ -1,5 +1,6 @@
 pub mod ConsumedBytes
 pub mod Joining
+pub mod ValidWorlds
 pub mod OpeningMoves
 pub mod Worlds
 pub mod RunParts

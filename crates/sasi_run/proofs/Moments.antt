@@ -1,7 +1,6 @@
 -- What a crash leaves of layouts, told by the states for which their shapes stand: a first part of the moves of a piece leaves the
 -- state before the piece, or the state after it.
 use Rattle.std.proofs.Common.{◌≡◌, ◌⊎◌, ℕ, Bool, true, false, cond, List, [], ◌∷◌, ◌++◌, refl, sym, ◌∙◌, ap, subst, inl, inr, ⊎_elim, append_assoc}
-use Rattle.std.specs.List.{AllByRecursion}
 use Rattle.std.proofs.lemmas.List.{append-nil}
 use Rattle.sasi_host.specs.Names.{Folder}
 use Rattle.sasi_model.specs.Asked.{Asked, NoChange, Creates, Defines, Writes, Flushes, asks}
@@ -9,7 +8,7 @@ use Rattle.sasi_model.specs.Parsers.{grammar_parser}
 use Rattle.sasi_model.specs.Pieces.{Piece}
 use Rattle.sasi_model.specs.State.{State}
 use Rattle.sasi_layout.specs.Layout.{Layout, bare, state_of}
-use Rattle.sasi_layout.specs.Moves.{Create, Define, Flush, Freeze, Move, Put, after_moves, moved_state, states}
+use Rattle.sasi_layout.specs.Moves.{Create, Define, Flush, Move, Put, after_moves, moved_state, states}
 use Rattle.sasi_layout.specs.Running as running
 use Rattle.sasi_layout.specs.Running.{IsBusy, IsMoving, IsQuiet, after_pieces, replies_of}
 use Rattle.sasi_layout.specs.Shape.{IsOfShape, StandsSealed}
@@ -19,7 +18,8 @@ use Rattle.sasi_layout.specs.Transitions.{Transitions}
 use Rattle.sasi_store.specs.Worlds.{World, moves_in, steps}
 use Rattle.sasi_layout.proofs.LayoutLaws.{bare_state}
 use Rattle.sasi_layout.proofs.StatementLaws.{front_state_by}
-use Rattle.sasi_run.proofs.OpeningMoves.{front_state, moves_are, world_in_order}
+use Rattle.sasi_run.proofs.OpeningMoves.{KeepState, front_state, moves_are, states_kept, world_valid}
+use Rattle.sasi_run.proofs.ValidWorlds.{IsValidWorld}
 use Rattle.sasi_run.proofs.SilentPieces.{silent_piece}
 
 -- ---- moments by states, of worlds of any kind
@@ -52,29 +52,6 @@ pub record Crashed {W : Type 0} (t : Transitions W) (w : W) (before : List ℕ) 
   pub stands : IsBetweenPieces t w before done folder out ⊎ IsAnswering t w before done rest folder out
 
 -- ---- the moves of a piece
-
--- the move leaves the state
-abbrev leaves : Move → Bool
-leaves (Put m) = false
-leaves (Freeze table) = true
-leaves (Flush table) = true
-leaves (Create d) = false
-leaves (Define table index) = false
-
-leaves_state : (m : Move) (s : State) → leaves m ≡ true → moved_state m s ≡ s
-leaves_state (Freeze table) s keep = refl
-leaves_state (Flush table) s keep = refl
-leaves_state (Put m) s keep = cc
-leaves_state (Create d) s keep = cc
-leaves_state (Define table index) s keep = cc
-
--- moves that leave it
-abbrev KeepState : List Move → Type 0
-KeepState ms = AllByRecursion (λ m. leaves m ≡ true) ms
-
-states_kept : (ms : List Move) (s : State) → KeepState ms → states ms s ≡ s
-states_kept [] s keep = refl
-states_kept (m ∷ ms) s keep = ap (states ms) (leaves_state m s keep.0) ∙ states_kept ms s keep.1
 
 front_kept : (ms more : List Move) → KeepState (ms ++ more) → KeepState ms
 front_kept [] more keep = tt
@@ -118,11 +95,10 @@ piece_either l piece done rest parts in_order =
     (front_state_by grammar_parser l piece (moves_of l piece) [] (sym (append-nil (moves_of l piece))) in_order)
 
 -- and in a world
-pub world_either : (w : World) (piece : Piece) (done rest : List Move) → HasNumbersInOrder w.layout → moves_in grammar_parser w piece ≡ done ++ rest → IsEither w.layout (moves_in grammar_parser w piece) done
-world_either w piece done rest in_order parts =
-    ⊎_elim (λ same. subst (λ (ms : List Move). IsEither w.layout ms done) (sym same) (piece_either w.layout piece done rest (sym same ∙ parts) in_order))
-    (λ freeze. subst (λ (ms : List Move). IsEither w.layout ms done) (sym freeze.one) (kept_either w.layout (Freeze freeze.table ∷ []) done rest (sym freeze.one ∙ parts) (refl, tt) (front_state w piece in_order done rest parts)))
-    (moves_are w piece)
+pub world_either : (w : World) (piece : Piece) (done rest : List Move) → IsValidWorld w → moves_in grammar_parser w piece ≡ done ++ rest → IsEither w.layout (moves_in grammar_parser w piece) done
+world_either w piece done rest valid parts =
+    ⊎_elim (λ same. subst (λ (ms : List Move). IsEither w.layout ms done) (sym same) (piece_either w.layout piece done rest (sym same ∙ parts) valid.in_order))
+    (λ quiet. kept_either w.layout (moves_in grammar_parser w piece) done rest parts quiet.keep (front_state w piece valid done rest parts)) (moves_are w piece)
 
 -- ---- what moments rest on
 
@@ -136,8 +112,8 @@ pub record StepsByState {W : Type 0} (t : Transitions W) : Type 1 where
 -- so it is in the worlds of a run
 abbrev pub by_state : StepsByState steps
 by_state = record {
-  IsValid = λ w. HasNumbersInOrder w.layout;
-  valid = λ w piece in_order. world_in_order w piece in_order;
+  IsValid = IsValidWorld;
+  valid = λ w piece valid. world_valid w piece valid;
   either = world_either;
   silent = silent_piece;
 }

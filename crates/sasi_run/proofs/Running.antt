@@ -7,13 +7,14 @@ use Rattle.sasi_host.specs.View.{CrashLeaves, Emits, PartlyOut, View}
 use Rattle.sasi_host.specs.Disk.{Changes, FromImage, Each}
 use Rattle.sasi_host.proofs.ChangeLaws.{crash_leaves_on}
 use Rattle.sasi_model.specs.Pieces.{Piece}
-use Rattle.sasi_layout.proofs.Fewer.{manifest_fewer, serves_fewer}
+use Rattle.sasi_layout.proofs.Fewer.{serves_fewer}
 use Rattle.sasi_layout.specs.Between.{Between}
 use Rattle.sasi_layout.specs.Layout.{Layout, bare}
 use Rattle.sasi_layout.specs.Moves.{Move, after_moves}
 use Rattle.sasi_layout.specs.Running.{Crashed, IsBusy, IsQuiet, after_pieces, replies_of}
 use Rattle.sasi_layout.specs.Serving.{Serves, StoreInMemory}
 use Rattle.sasi_layout.specs.Shape.{IsOfShape}
+use Rattle.sasi_store.proofs.SeenFiles.{goes_on_seen, tasks_seen}
 use Rattle.sasi_store.specs.Cursors.{AreCursors, AreCursorsOf}
 use Rattle.sasi_store.specs.Worlds.{ServesWorld, World, steps}
 use Rattle.sasi_store.specs.StoreView.{IsReady, store_memory}
@@ -34,34 +35,20 @@ grown (Some o) (Some n) before more is appends =
 -- ---- the store
 
 -- after an emit a store serves the same world
-pub serves_still : (a b : View) (store : Store) (w : World) → b.files ≡ a.files → ((x : Folder) → b.image x → a.image x) → ServesWorld a store w → ServesWorld b store w
-serves_still a b store w same fewer serves = record {
+pub serves_still : (a b : View) (store : Store) (w : World) → b.files ≡ a.files → ((x : Folder) → b.image x → a.image x) → IsReady a store → ServesWorld a store w → ServesWorld b store w
+serves_still a b store w same fewer ready serves = record {
   serves = serves_fewer a b fewer (store_memory store) w.layout (subst (λ (f : Option Folder). IsSome f) (sym same) serves.serves.told) serves.serves;
   trace_is = serves.trace_is;
   cursors_are = subst (λ (f : Option Folder). AreCursorsOf f store.parts.maps store.session.cursors w.session) (sym same) serves.cursors_are;
   views_are = serves.views_are;
+  tasks_are = tasks_seen a b same store.parts w.layout store.session.tasks.items w.tasks ready.goes_on.ready.each serves.tasks_are;
 }
 
 -- and can make a change as before
 pub ready_still : (a b : View) (store : Store) → b.files ≡ a.files → ((x : Folder) → b.image x → a.image x) → IsReady a store → IsReady b store
 ready_still a b store same fewer ready = record {
-  memory = record {
-    consistent = ready.memory.consistent;
-    definitions = ready.memory.definitions;
-    tables = ready.memory.tables;
-    numbered = ready.memory.numbered;
-    timestamp = ready.memory.timestamp;
-    log_file = ready.memory.log_file;
-    manifest_room = rw same ready.memory.manifest_room;
-    log_room = rw same ready.memory.log_room;
-    manifest_usable = ready.memory.manifest_usable;
-    stands = λ told. manifest_fewer a b fewer store.parts.manifest.number store.parts.manifest.at store.parts.manifest.listing
-        (ready.memory.stands (subst (λ (f : Option Folder). IsSome f) same told));
-    log_usable = ready.memory.log_usable;
-    kept = rw same ready.memory.kept;
-  };
+  goes_on = goes_on_seen a b same fewer store.session.views store.parts store.session.tasks.items ready.goes_on;
   usable = ready.usable;
-  parts = ready.parts;
   cursors = subst (λ (f : Option Folder). AreCursors f store.parts store.session) (sym same) ready.cursors;
 }
 

@@ -34,6 +34,7 @@ use Rattle.sasi_run.specs.declared.session.Stop.{Stop}
 use Rattle.sasi_run.specs.declared.session.Stop.TheVariants.{Disk, Output, Memory, Corrupt, Spent, Missing}
 use Rattle.sasi_run.specs.declared.status.Status.{Status}
 use Rattle.sasi_run.specs.declared.status.Status.TheVariants.{AnalyzerMissing, Done, FolderFault, Refused, ScriptFault, ScriptTooLong}
+use Rattle.sasi_run.proofs.ValidWorlds.{new_valid}
 use Rattle.sasi_run.proofs.Answering.{feeds_both, feeds_nothing}
 use Rattle.sasi_run.proofs.ButStored.{ran_both_but, stop_runs, stopped_behind_but}
 use Rattle.sasi_run.proofs.ConsumedBytes.{consumes_both, consumes_kept, consumes_none, consumes_nothing}
@@ -166,7 +167,7 @@ module _ {kinds : List Class} (from to : Session) (l l2 : Option (List ℕ)) (a 
     all_shown : (n : ℕ) → to.refused ≡ n → EmitsAllReplies grammar_parser (first_of all_answers) (state_of w.layout) on.read (replies_of steps w (all_pieces on.read)) n
     all_shown n is =
         let count : to.refused ≡ counted_by from.refused (refusals_of w (all_pieces on.read)) = (on.ran w serves).count in
-        let by_model : refusals_of w (all_pieces on.read) ≡ refusals_by grammar_parser new_session (state_of w.layout) (all_pieces on.read) = refusals_are (all_pieces on.read) w serves.serves.in_order in
+        let by_model : refusals_of w (all_pieces on.read) ≡ refusals_by grammar_parser new_session (state_of w.layout) (all_pieces on.read) = refusals_are (all_pieces on.read) w (new_valid start serves.serves.in_order) in
         record {
           all = first_shown steps w (all_pieces on.read) [] (all_pieces (script_of l on.read)) all_read_are;
           count = omega (arith, is, count, by_model, fresh.count);

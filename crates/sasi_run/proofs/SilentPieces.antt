@@ -11,9 +11,9 @@ use Rattle.sasi_model.specs.Sessions.{SessionState, cursor_refusal, refused_turn
 use Rattle.sasi_model.specs.State.{State}
 use Rattle.sasi_model.specs.Step.{step, step_as, step_by}
 use Rattle.sasi_layout.specs.Layout.{state_of}
-use Rattle.sasi_layout.specs.NumbersInOrder.{HasNumbersInOrder}
 use Rattle.sasi_store.specs.Worlds.{World, steps}
 use Rattle.sasi_run.proofs.OpeningMoves.{world_state}
+use Rattle.sasi_run.proofs.ValidWorlds.{IsValidWorld}
 
 silent_or : (x : SessionState) (s : State) (statement : Statement) (r : Option Refusal)
     → (option_map_or (refused_turn x) r (option_map_or (refused_turn x) (cursor_refusal x statement) (taken_turn x s statement))).reply ≡ [] → (execute_or s statement r).state ≡ s
@@ -38,5 +38,5 @@ empty_front : (xs ys : List ℕ) → xs ++ ys ≡ [] → xs ≡ []
 empty_front [] ys empty = refl
 empty_front (x ∷ xs) ys empty = cc
 
-pub silent_piece : (w : World) (piece : Piece) → HasNumbersInOrder w.layout → steps.reply w piece ≡ [] → state_of (steps.after w piece).layout ≡ state_of w.layout
-silent_piece w piece in_order none = world_state w piece in_order ∙ silent_turn w.session (state_of w.layout) piece (empty_front (turn_by grammar_parser w.session (state_of w.layout) piece).reply _ none)
+pub silent_piece : (w : World) (piece : Piece) → IsValidWorld w → steps.reply w piece ≡ [] → state_of (steps.after w piece).layout ≡ state_of w.layout
+silent_piece w piece valid none = world_state w piece valid ∙ silent_turn w.session (state_of w.layout) piece (empty_front (turn_by grammar_parser w.session (state_of w.layout) piece).reply _ none)

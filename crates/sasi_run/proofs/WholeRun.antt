@@ -37,6 +37,7 @@ use Rattle.sasi_run.specs.declared.status.Status.TheVariants.{Usage}
 use Rattle.sasi_run.proofs.ConsumedBytes.{consumes_nothing}
 use Rattle.sasi_run.proofs.Moments as moments
 use Rattle.sasi_run.proofs.Moments.{by_state, by_states}
+use Rattle.sasi_run.proofs.ValidWorlds.{new_valid}
 use Rattle.sasi_run.proofs.Recovering.{IsStateIn, after_crash, counted, nothing_shown}
 use Rattle.sasi_run.proofs.Running.{one_of}
 use Rattle.sasi_run.proofs.RunParts.{appends_none}
@@ -107,15 +108,15 @@ module _ (asked : Option Partitioner) (a : View) (l : Layout) (starts : StartsFr
     -- the state is that of the model
     by_model : HasNumbersInOrder l → (n : ℕ) (s : State) → IsStateIn steps (new_world l) pieces n s → IsStateAfter grammar_parser (state_of l) pieces n s
     by_model in_order n s is = ⊎_elim
-        (λ here. inl (here ∙ state_is (take n pieces) (new_world l) in_order))
-        (λ later. inr (later.0, later.1 ∙ state_is (take (suc n) pieces) (new_world l) in_order))
+        (λ here. inl (here ∙ state_is (take n pieces) (new_world l) (new_valid l in_order)))
+        (λ later. inr (later.0, later.1 ∙ state_is (take (suc n) pieces) (new_world l) (new_valid l in_order)))
         is
 
     from_moment : HasNumbersInOrder l → (folder : Folder) (out shown : List ℕ) → out ≡ before ++ shown → moments.Crashed steps (new_world l) before pieces folder out
         → Recovers Stands grammar_parser asked a (state_of l) pieces (answers_of steps (new_world l) pieces) before folder out
     from_moment in_order folder out shown went was =
         let n = counted (answers_of steps (new_world l) pieces) shown in
-        let after = after_crash steps by_state (new_world l) in_order before pieces folder out shown went n.0 n.1 was in
+        let after = after_crash steps by_state (new_world l) (new_valid l in_order) before pieces folder out shown went n.0 n.1 was in
         record {
           shown = shown;
           went = went;
@@ -131,7 +132,7 @@ module _ (asked : Option Partitioner) (a : View) (l : Layout) (starts : StartsFr
         → Recovers Stands grammar_parser asked a (state_of l) pieces (answers_of steps (new_world l) pieces) before folder out
     recovers in_order folder out left = ⊎_elim (recovers_image (answers_of steps (new_world l) pieces) folder out)
         (λ crashed.
-        (let was = by_states steps by_state (new_world l) in_order before folder out pieces crashed in
+        (let was = by_states steps by_state (new_world l) (new_valid l in_order) before folder out pieces crashed in
         ⊎_elim (λ quiet. from_moment in_order folder out (replies_of steps (new_world l) was.done) quiet.went was)
         (λ answering. from_moment in_order folder out (replies_of steps (new_world l) was.done ++ answering.front) answering.went was) was.stands))
         left
@@ -166,7 +167,7 @@ replies_as_model status l left_old left_new out_old out_new in_order is = record
   answers = is.answers;
   runs = is.runs;
   replied = subst (λ (rs : List (List ℕ)). AreReplies grammar_parser new_session (state_of l) (all_pieces (script_of left_old is.runs.read)) rs) (sym is.replied)
-      (answers_are (all_pieces (script_of left_old is.runs.read)) (new_world l) in_order);
+      (answers_are (all_pieces (script_of left_old is.runs.read)) (new_world l) (new_valid l in_order));
 }
 
 -- the replies from a layout, and what a crash leaves of it by states and by shapes
@@ -316,7 +317,7 @@ runs_opened asked status a b c m store l l2 sound starts change serves sound_c o
       (leaves_run asked a m starts before emitted (all_pieces (script_of l on.runs.read)) b c sound change on.crashes folder out left));
   shapes = λ before emitted folder out left. leaves_run asked a m starts before emitted (all_pieces (script_of l on.runs.read)) b c sound change on.crashes folder out left;
   ends = λ ran. stands_for_end c (after_pieces steps (new_world m) (all_pieces (script_of l on.runs.read))).layout _ sound_c (on.told ran) (on.ends ran)
-      (state_is (all_pieces (script_of l on.runs.read)) (new_world m) serves.serves.in_order);
+      (state_is (all_pieces (script_of l on.runs.read)) (new_world m) (new_valid m serves.serves.in_order));
 }
 
 -- ---- from each layout

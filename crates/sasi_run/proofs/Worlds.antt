@@ -9,7 +9,6 @@ use Rattle.sasi_model.specs.Sessions.{refusals_by, session_by}
 use Rattle.sasi_model.specs.Step.{state_after}
 use Rattle.sasi_layout.specs.Layout.{state_of}
 use Rattle.sasi_layout.specs.Running.{after_pieces, replies_of}
-use Rattle.sasi_layout.specs.NumbersInOrder.{HasNumbersInOrder}
 use Rattle.sasi_store.specs.Worlds.{World, steps, told_in}
 use Rattle.sasi_run.specs.EmitCounts.{emits_for, emits_in, emits_of}
 use Rattle.sasi_run.specs.Headline.{AreReplies}
@@ -17,7 +16,8 @@ use Rattle.sasi_run.specs.Session.{refusals_of, refused_in}
 use Rattle.sasi_run.specs.Needs.{AreSupplied}
 use Rattle.sasi_run.specs.Shapes.{answers_of}
 use Rattle.sasi_run.proofs.Joining.{after-append, first_answers, replies-append}
-use Rattle.sasi_run.proofs.OpeningMoves.{world_in_order, world_state}
+use Rattle.sasi_run.proofs.OpeningMoves.{world_state, world_valid}
+use Rattle.sasi_run.proofs.ValidWorlds.{IsValidWorld}
 
 -- ---- one after another
 
@@ -41,30 +41,26 @@ supplied_both kinds (x ∷ xs) ys w none later = (none.0, supplied_both kinds xs
 
 -- ---- by the model
 
-pub in_order_after : (ps : List Piece) (w : World) → HasNumbersInOrder w.layout → HasNumbersInOrder (after_pieces steps w ps).layout
-in_order_after [] w in_order = in_order
-in_order_after (p ∷ ps) w in_order = in_order_after ps (steps.after w p) (world_in_order w p in_order)
-
 -- the state after the pieces is that of the model
-pub state_is : (ps : List Piece) (w : World) → HasNumbersInOrder w.layout → state_of (after_pieces steps w ps).layout ≡ state_after (state_of w.layout) ps
-state_is [] w in_order = refl
-state_is (p ∷ ps) w in_order = state_is ps (steps.after w p) (world_in_order w p in_order) ∙ ap (λ (s : State). state_after s ps) (world_state w p in_order)
+pub state_is : (ps : List Piece) (w : World) → IsValidWorld w → state_of (after_pieces steps w ps).layout ≡ state_after (state_of w.layout) ps
+state_is [] w valid = refl
+state_is (p ∷ ps) w valid = state_is ps (steps.after w p) (world_valid w p valid) ∙ ap (λ (s : State). state_after s ps) (world_state w p valid)
 
 -- and so is each of their replies
-pub answers_are : (ps : List Piece) (w : World) → HasNumbersInOrder w.layout → AreReplies grammar_parser w.session (state_of w.layout) ps (answers_of steps w ps)
-answers_are [] w in_order = refl
-answers_are (p ∷ ps) w in_order = (
+pub answers_are : (ps : List Piece) (w : World) → IsValidWorld w → AreReplies grammar_parser w.session (state_of w.layout) ps (answers_of steps w ps)
+answers_are [] w valid = refl
+answers_are (p ∷ ps) w valid = (
   (told_in w (read p), refl),
-  subst (λ (s : State). AreReplies grammar_parser (session_by grammar_parser w.session (state_of w.layout) p) s ps (answers_of steps (steps.after w p) ps)) (world_state w p in_order)
-      (answers_are ps (steps.after w p) (world_in_order w p in_order)),
+  subst (λ (s : State). AreReplies grammar_parser (session_by grammar_parser w.session (state_of w.layout) p) s ps (answers_of steps (steps.after w p) ps)) (world_state w p valid)
+      (answers_are ps (steps.after w p) (world_valid w p valid)),
 )
 
-pub refusals_are : (ps : List Piece) (w : World) → HasNumbersInOrder w.layout → refusals_of w ps ≡ refusals_by grammar_parser w.session (state_of w.layout) ps
-refusals_are [] w in_order = refl
-refusals_are (p ∷ ps) w in_order =
+pub refusals_are : (ps : List Piece) (w : World) → IsValidWorld w → refusals_of w ps ≡ refusals_by grammar_parser w.session (state_of w.layout) ps
+refusals_are [] w valid = refl
+refusals_are (p ∷ ps) w valid =
     ap (λ (n : ℕ). refused_in w p + n)
-    (refusals_are ps (steps.after w p) (world_in_order w p in_order)
-    ∙ ap (λ (s : State). refusals_by grammar_parser (session_by grammar_parser w.session (state_of w.layout) p) s ps) (world_state w p in_order))
+    (refusals_are ps (steps.after w p) (world_valid w p valid)
+    ∙ ap (λ (s : State). refusals_by grammar_parser (session_by grammar_parser w.session (state_of w.layout) p) s ps) (world_state w p valid))
 
 -- ---- by the replies
 

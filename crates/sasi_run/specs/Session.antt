@@ -1,7 +1,7 @@
 -- What a part of a run does: it is fed bytes of the script, and emits the replies of the pieces that end in them. Each
 -- word speaks of whatever may follow in the script, so that parts join to a run. Which pieces end is known on every host; what
 -- they show is said of each world that the store serves.
-use Rattle.std.specs.Prelude.{◌≡◌, ◌+◌, ℕ, if◌then◌else◌, List, [], ◌∷◌, ◌++◌, Option, Ok, Err, Some, is_some, IfErr, OnOk}
+use Rattle.std.specs.Prelude.{◌≡◌, ◌⊎◌, ◌+◌, ℕ, true, if◌then◌else◌, List, [], ◌∷◌, ◌++◌, Option, Ok, Err, Some, is_some, IfErr, OnOk}
 use Rattle.std.specs.declared.result.Result.{Result}
 use Rattle.sasi_host.specs.declared.damage.Damage.{Damage}
 use Rattle.sasi_host.specs.Names.{Folder}
@@ -21,6 +21,7 @@ use Rattle.sasi_layout.specs.Layout.{state_of}
 use Rattle.sasi_layout.specs.Running.{after_pieces, replies_of}
 use Rattle.sasi_layout.specs.Spent.{spent}
 use Rattle.sasi_layout.specs.Statements.{known_in}
+use Rattle.sasi_store.specs.HeldDamage.{ShowsHeld}
 use Rattle.sasi_store.specs.Worlds.{World, steps}
 use Rattle.sasi_run.specs.Needs.{class_asked}
 use Rattle.sasi_tables.specs.declared.fault.StepFault.{StepFault}
@@ -108,9 +109,9 @@ pub record OutputFailed (old new : View) : Type 0 where
   pub disk : new.disk_faults ≡ old.disk_faults
   pub out : FailedAtLast old.out_faults new.out_faults new.failed_last
 
--- the folder as it reads now shows the damage
+-- the folder as it reads now shows the damage, or a file of it does that a cursor holds, which no table may have any more
 abbrev pub ShowsNow : View → Damage → Type 0
-ShowsNow v damage = (folder : Folder) → v.files ≡ Some folder → FolderShows folder damage
+ShowsNow v damage = (folder : Folder) → v.files ≡ Some folder → FolderShows folder damage ⊎ ShowsHeld (λ name. true) folder damage
 
 -- what failed where a run stopped: the last call, where the folder or the output stopped it, and else none
 abbrev pub StopFaults : Stop → View → View → Type 0

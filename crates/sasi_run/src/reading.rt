@@ -1,5 +1,5 @@
 // The loop over the reads of a script.
-ghost use Rattle.std.specs.Prelude.{◌≡◌, ◌≢◌, IfErr, IfOk, IsErrOf, OnOk, map};
+ghost use Rattle.std.specs.Prelude.{◌≡◌, IfErr, IfOk, IsErrOf, OnOk, map};
 ghost use Rattle.sasi_host.specs.View.{FailsOnlyAsTold};
 ghost use Rattle.sasi_store.specs.StoreView.{IsReady, KnowsStore};
 ghost use Rattle.sasi_run.specs.Crashing.{EndsAtRead, FeedsCrashSafe, FeedsRead, RanScript, RunsCrashSafe, StopsWith};

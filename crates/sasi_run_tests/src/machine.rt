@@ -291,6 +291,41 @@ fn cursors_in_memory_are_few(rt: HostRuntime) {
     assert!(rt; replies.as_slice() == FULL_REPLIES.as_bytes());
 }
 
+/// Compactions, which change no row. A machine has no files, so there is nothing to be done.
+const COMPACTED: &str = "\
+CREATE TABLE t (k text PRIMARY KEY, n int);
+INSERT INTO t (k, n) VALUES ('k1', 1);
+COMPACT t;
+STEP COMPACT t 3;
+BEGIN COMPACT t;
+STEP COMPACT t 1;
+COMPACT u;
+BEGIN COMPACT u;
+STEP COMPACT u 0;
+STEP COMPACT t 0;
+SELECT * FROM t;
+";
+
+const COMPACTED_REPLIES: &str = "\
+ok
+ok
+ok
+ok
+ok
+ok
+error 4 NoTable u
+error 4 NoTable u
+error 4 NoTable u
+error 9 NumberRange STEP
+'k1' | 1
+(1 rows)
+";
+
+#[test]
+fn compaction_in_memory_changes_no_row(rt: HostRuntime) {
+    check_lines(&rt, rt.alloc(), COMPACTED, COMPACTED_REPLIES);
+}
+
 #[test]
 fn piece_that_is_not_utf8_is_refused_at_its_offset(rt: HostRuntime) {
     let mut machine = Machine::new(rt.alloc(), Partitioner::Lead8);

@@ -1,5 +1,5 @@
 -- A look-up of a key in one data file, by what the reader of data files promises.
-use Rattle.std.proofs.Common.{◌≡◌, ◌+◌, ◌*◌, ◌≤◌, ℕ, List, length, [], Option, None, Some, IfSome, IsSome, Result, Ok, refl, sym, ap, subst, ◌∙◌, arith}
+use Rattle.std.proofs.Common.{◌≡◌, ◌<◌, ◌+◌, ◌*◌, ◌≤◌, ℕ, List, length, [], Option, None, Some, IfSome, IsSome, Result, Ok, refl, sym, ap, subst, ◌∙◌, arith}
 use Rattle.std.specs.FinMap as map_
 use Rattle.sasi_types.specs.declared.column.ColumnType.{ColumnType}
 use Rattle.sasi_types.specs.declared.decorated_key.DecoratedKey.{DecoratedKey}
@@ -39,24 +39,24 @@ use Rattle.sasi_scan.proofs.Steps.{first_shown, opened_file}
 
 -- a scan of the open file, before its first partition
 abbrev scan_of : OpenDataFile → DataScan
-scan_of opened = record { opened = opened; passed = 0; pairs_buffered = record { file = opened.file; page = None; bytes = [] }; buffered = record { file = opened.file; page = None; bytes = [] } }
+scan_of opened = record { opened = opened; tokens = None; passed = 0; pairs_buffered = record { file = opened.file; page = None; bytes = [] }; buffered = record { file = opened.file; page = None; bytes = [] }; last_pair = None; last = None }
 
 -- the listed file was opened, and the folder is the same
 pub record IsFindable (v w : View) (types : List ColumnType) (file : ListedFile) (opened : OpenDataFile) : Type 1 where
   pub change : Changes Same v w
   pub types_are : opened.types ≡ types
-  pub is : IsOpenedFile v.files types file (scan_of opened)
+  pub is : IsOpenedFile v.files types None file (scan_of opened)
 
-pub findable : (v w : View) (types : List ColumnType) (file : ListedFile) (opened : OpenDataFile) (name : FileName) → name ≡ data_name file.number → Changes Same v w → IsThere v (data_name file.number) → opened.file ≡ name → opened.types ≡ types
+pub findable : (v w : View) (types : List ColumnType) (file : ListedFile) (opened : OpenDataFile) (name : FileName) → 0 < opened.tree.pairs → name ≡ data_name file.number → Changes Same v w → IsThere v (data_name file.number) → opened.file ≡ name → opened.types ≡ types
     → ((bytes : Bytes) (p : Partitioner) (content : Content) → contents v name ≡ Some bytes → IsDataFile p types bytes content → IsOpenedAs opened p content)
     → ((bytes : Bytes) → contents v name ≡ Some bytes → HasHeaderAndFooter bytes (numbers_of opened))
     → IsFindable v w types file opened
-findable v w types file opened name is_name change there named types_are opens footer =
+findable v w types file opened name some is_name change there named types_are opens footer =
     let same : contents v name ≡ contents v (data_name file.number) = ap (contents v) is_name in
     record {
       change = change;
       types_are = types_are;
-      is = opened_file v types file opened (scan_of opened) there (named ∙ is_name) types_are (λ bytes p content reads data_file. opens bytes p content (same ∙ reads) data_file) (λ bytes reads. footer bytes (same ∙ reads)) refl;
+      is = opened_file v types None file opened (scan_of opened) some there (named ∙ is_name) types_are (λ bytes p content reads data_file. opens bytes p content (same ∙ reads) data_file) (λ bytes reads. footer bytes (same ∙ reads)) refl;
     }
 
 module _ (v w : View) (types : List ColumnType) (file : ListedFile) (opened : OpenDataFile) (can : IsFindable v w types file opened) where
@@ -96,7 +96,7 @@ module _ (v w : View) (types : List ColumnType) (file : ListedFile) (opened : Op
   -- damage is that of the file, and of no file with a content
   pub find_shown : (f : ReadFault) → DamageShown w opened.file (ShowsData opened) f → OnDamage (λ damage. (bytes : Bytes) → contents_in v.files (data_name file.number) ≡ Some bytes → ShowsDataFile types (data_name file.number) bytes damage) f
   find_shown f shown =
-      first_shown v types file (scan_of opened) f can.is
+      first_shown v types None file (scan_of opened) f can.is
       (subst (λ (o : Option Folder). OnDamage (λ damage. (bytes : Bytes) → contents_in o opened.file ≡ Some bytes → ShowsData opened bytes damage) f) (reads_same v w can.change) shown)
 
   pub no_false_find : (f : ReadFault) → NoFalseOpenedDamage w opened f → OnDamage (λ _. (p : Partitioner) (content : Content) → HasContent v.files p types file content → ⊥) f

@@ -1,6 +1,7 @@
 pub mod Costs
 mod Steps
 mod Moves
+mod KeyOrder
 mod Advancing
 pub mod Openings
 pub mod Pages

@@ -24,6 +24,7 @@ use Rattle.sasi_scan.specs.Parts.{IsMergeOfParts, IsOfPart, merged_all}
 use Rattle.sasi_scan.specs.Sources.{AreMoved, CanStep, IsHeadOf, IsListedSource, IsMoved, IsMovedAt, IsSourceOf, NoFalseSourceDamage, StepsTo, advances, stays}
 use Rattle.sasi_scan.specs.Left.{AreLeft, IsLeft, IsLeftInMap}
 use Rattle.sasi_scan.specs.Scanning.{CanScan, GivesFirst, IsScanOf, IsScanning, scan_of}
+use Rattle.sasi_scan.proofs.KeyOrder.{moved_given}
 use Rattle.sasi_scan.proofs.Steps.{after_first, file_left, no_false_source, steps_can, steps_head, steps_listed, steps_of}
 
 -- ---- positions
@@ -117,6 +118,7 @@ module _ (seen : Option Folder) (ms : List MemtableView) (key : DecoratedKey) wh
   moved_scan n heads sources nexts afters moved scan = record {
     can = moved_can n heads sources nexts afters moved scan.can;
     counted = as_many_heads n heads sources nexts afters moved ∙ scan.counted ∙ sym (as_many_sources n heads sources nexts afters moved);
+    given = moved_given seen ms key n heads sources nexts afters moved scan.given;
   }
 
   -- in any file what they have left stays of the parts

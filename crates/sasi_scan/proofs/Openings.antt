@@ -18,6 +18,7 @@ use Rattle.sasi_host.specs.Damages.{OnDamage}
 use Rattle.sasi_host.specs.Names.{Bytes, Folder, data_name}
 use Rattle.sasi_host.specs.Disk.{Changes, Same}
 use Rattle.sasi_host.specs.View.{IsThere, View, contents_in}
+use Rattle.sasi_dataread.specs.Tokens.{AgreesWith}
 use Rattle.sasi_datawrite.specs.Format.{Content, decorated_key}
 use Rattle.sasi_dataread.specs.Damages.{ShowsDataFile}
 use Rattle.sasi_dataread.specs.Opened.{OpenDataFile}
@@ -35,76 +36,77 @@ use Rattle.sasi_scan.specs.Opening.{AreOpened, IsAdded, IsOpened, IsOpenedFile, 
 use Rattle.sasi_scan.specs.Scanning.{CanScan, IsScanOf, IsScanning, scan_of}
 use Rattle.sasi_scan.proofs.Costs.{damage_as, reads_same}
 use Rattle.sasi_scan.proofs.Moves.{all_at, got}
+use Rattle.sasi_scan.proofs.KeyOrder.{both_given, maps_given, opened_given}
 use Rattle.sasi_scan.proofs.Steps.{file_left, file_of, map_head}
 
 -- ---- one file more
 
-opened_push : (seen : Option Folder) (types : List ColumnType) (files : List ListedFile) (file : ListedFile) (heads : List Head) (sources : List Source) (head : Head) (source : Source) → AreOpened seen types files heads sources → IsOpened seen types file head source → AreOpened seen types (files ++ file ∷ []) (heads ++ head ∷ []) (sources ++ source ∷ [])
-opened_push seen types [] file heads sources head source are is =
-    subst (λ (hs : List Head). AreOpened seen types (file ∷ []) (hs ++ head ∷ []) (sources ++ source ∷ [])) (sym are.0)
-    (subst (λ (ss : List Source). AreOpened seen types (file ∷ []) (head ∷ []) (ss ++ source ∷ [])) (sym are.1) (is, (refl, refl)))
-opened_push seen types (f ∷ files) file (h ∷ heads) (s ∷ sources) head source are is = (are.0, opened_push seen types files file heads sources head source are.1 is)
-opened_push seen types (f ∷ files) file [] sources head source are is = absurd are
-opened_push seen types (f ∷ files) file (h ∷ heads) [] head source are is = absurd are
+opened_push : (seen : Option Folder) (types : List ColumnType) (tokens : Option Partitioner) (files : List ListedFile) (file : ListedFile) (heads : List Head) (sources : List Source) (head : Head) (source : Source) → AreOpened seen types tokens files heads sources → IsOpened seen types tokens file head source → AreOpened seen types tokens (files ++ file ∷ []) (heads ++ head ∷ []) (sources ++ source ∷ [])
+opened_push seen types tokens [] file heads sources head source are is =
+    subst (λ (hs : List Head). AreOpened seen types tokens (file ∷ []) (hs ++ head ∷ []) (sources ++ source ∷ [])) (sym are.0)
+    (subst (λ (ss : List Source). AreOpened seen types tokens (file ∷ []) (head ∷ []) (ss ++ source ∷ [])) (sym are.1) (is, (refl, refl)))
+opened_push seen types tokens (f ∷ files) file (h ∷ heads) (s ∷ sources) head source are is = (are.0, opened_push seen types tokens files file heads sources head source are.1 is)
+opened_push seen types tokens (f ∷ files) file [] sources head source are is = absurd are
+opened_push seen types tokens (f ∷ files) file (h ∷ heads) [] head source are is = absurd are
 
-opened_more : (seen : Option Folder) (types : List ColumnType) (files : List ListedFile) (file : ListedFile) (heads : List Head) (sources : List Source) (heads_new : List Head) (sources_new : List Source) → AreOpened seen types files heads sources → IsAdded (IsOpened seen types file) heads sources heads_new sources_new → AreOpened seen types (files ++ file ∷ []) heads_new sources_new
-opened_more seen types files file heads sources heads_new sources_new are added =
-    subst (λ (hs : List Head). AreOpened seen types (files ++ file ∷ []) hs sources_new) (sym added.heads_are)
-    (subst (λ (ss : List Source). AreOpened seen types (files ++ file ∷ []) (heads ++ added.head ∷ []) ss) (sym added.sources_are)
-    (opened_push seen types files file heads sources added.head added.source are added.is))
+opened_more : (seen : Option Folder) (types : List ColumnType) (tokens : Option Partitioner) (files : List ListedFile) (file : ListedFile) (heads : List Head) (sources : List Source) (heads_new : List Head) (sources_new : List Source) → AreOpened seen types tokens files heads sources → IsAdded (IsOpened seen types tokens file) heads sources heads_new sources_new → AreOpened seen types tokens (files ++ file ∷ []) heads_new sources_new
+opened_more seen types tokens files file heads sources heads_new sources_new are added =
+    subst (λ (hs : List Head). AreOpened seen types tokens (files ++ file ∷ []) hs sources_new) (sym added.heads_are)
+    (subst (λ (ss : List Source). AreOpened seen types tokens (files ++ file ∷ []) (heads ++ added.head ∷ []) ss) (sym added.sources_are)
+    (opened_push seen types tokens files file heads sources added.head added.source are added.is))
 
 -- ---- opened files
 
-opened_can : (seen : Option Folder) (ms : List MemtableView) (types : List ColumnType) (files : List ListedFile) (heads : List Head) (sources : List Source) → AreOpened seen types files heads sources → CanScan seen ms (scan_of heads sources)
-opened_can seen ms types [] heads sources are =
-    subst (λ (hs : List Head). CanScan seen ms (scan_of hs sources)) (sym are.0) (subst (λ (ss : List Source). CanScan seen ms (scan_of [] ss)) (sym are.1) (record { can = tt; counted = refl }))
-opened_can seen ms types (f ∷ files) (h ∷ heads) (s ∷ sources) are =
-    let rest = opened_can seen ms types files heads sources are.1 in
-    record { can = (subst (CanStep seen ms) (sym are.0.source_is) are.0.steps.can, rest.can); counted = ap (λ n. suc n) rest.counted }
-opened_can seen ms types (f ∷ files) [] sources are = absurd are
-opened_can seen ms types (f ∷ files) (h ∷ heads) [] are = absurd are
+opened_can : (seen : Option Folder) (ms : List MemtableView) (types : List ColumnType) (tokens : Option Partitioner) (files : List ListedFile) (heads : List Head) (sources : List Source) → AreOpened seen types tokens files heads sources → CanScan seen ms (scan_of heads sources)
+opened_can seen ms types tokens [] heads sources are =
+    subst (λ (hs : List Head). CanScan seen ms (scan_of hs sources)) (sym are.0) (subst (λ (ss : List Source). CanScan seen ms (scan_of [] ss)) (sym are.1) (record { can = tt; counted = refl; given = tt }))
+opened_can seen ms types tokens (f ∷ files) (h ∷ heads) (s ∷ sources) are =
+    let rest = opened_can seen ms types tokens files heads sources are.1 in
+    record { can = (subst (CanStep seen ms) (sym are.0.source_is) are.0.steps.can, rest.can); counted = ap (λ n. suc n) rest.counted; given = opened_given seen types tokens (f ∷ files) (h ∷ heads) (s ∷ sources) are }
+opened_can seen ms types tokens (f ∷ files) [] sources are = absurd are
+opened_can seen ms types tokens (f ∷ files) (h ∷ heads) [] are = absurd are
 
 -- in any file, what they have left is of the parts
 record AllOf (types : List ColumnType) (maps : List MemtableView) (heads : List Head) (sources : List Source) : Type 0 where
   pub sources_of : AllByRecursion (IsSourceOf types) sources
   pub heads_of : AllByRecursion (IsHeadOf types maps) heads
 
-opened_of : (seen : Option Folder) (types : List ColumnType) (maps : List MemtableView) (files : List ListedFile) (heads : List Head) (sources : List Source) → AreOpened seen types files heads sources → AllOf types maps heads sources
-opened_of seen types maps [] heads sources are =
+opened_of : (seen : Option Folder) (types : List ColumnType) (tokens : Option Partitioner) (maps : List MemtableView) (files : List ListedFile) (heads : List Head) (sources : List Source) → AreOpened seen types tokens files heads sources → AllOf types maps heads sources
+opened_of seen types tokens maps [] heads sources are =
     subst (λ (hs : List Head). AllOf types maps hs sources) (sym are.0) (subst (λ (ss : List Source). AllOf types maps [] ss) (sym are.1) (record { sources_of = tt; heads_of = tt }))
-opened_of seen types maps (f ∷ files) (h ∷ heads) (s ∷ sources) are =
-    let rest = opened_of seen types maps files heads sources are.1 in
+opened_of seen types tokens maps (f ∷ files) (h ∷ heads) (s ∷ sources) are =
+    let rest = opened_of seen types tokens maps files heads sources are.1 in
     let one = are.0 in
     record {
       sources_of = (subst (IsSourceOf types) (sym one.source_is) (ap (λ (o : OpenDataFile). o.types) one.steps.opened ∙ one.is.types_are), rest.sources_of);
       heads_of = (file_of seen types maps one.scan h one.next one.steps one.is.types_are, rest.heads_of);
     }
-opened_of seen types maps (f ∷ files) [] sources are = absurd are
-opened_of seen types maps (f ∷ files) (h ∷ heads) [] are = absurd are
+opened_of seen types tokens maps (f ∷ files) [] sources are = absurd are
+opened_of seen types tokens maps (f ∷ files) (h ∷ heads) [] are = absurd are
 
-opened_listed : (seen : Option Folder) (types : List ColumnType) (all files : List ListedFile) (heads : List Head) (sources : List Source) → AllByRecursion (λ f. Contains all f) files → AreOpened seen types files heads sources → AllByRecursion (IsListedSource seen all types) sources
-opened_listed seen types all [] heads sources among are = subst (AllByRecursion (IsListedSource seen all types)) (sym are.1) tt
-opened_listed seen types all (f ∷ files) (h ∷ heads) (s ∷ sources) among are =
+opened_listed : (seen : Option Folder) (types : List ColumnType) (tokens : Option Partitioner) (all files : List ListedFile) (heads : List Head) (sources : List Source) → AllByRecursion (λ f. Contains all f) files → AreOpened seen types tokens files heads sources → AllByRecursion (IsListedSource seen all types) sources
+opened_listed seen types tokens all [] heads sources among are = subst (AllByRecursion (IsListedSource seen all types)) (sym are.1) tt
+opened_listed seen types tokens all (f ∷ files) (h ∷ heads) (s ∷ sources) among are =
     let one = are.0 in (
       subst (IsListedSource seen all types) (sym one.source_is)
           (subst (λ (o : OpenDataFile). IsListedFile seen all types o) (sym one.steps.opened) (record { file = f; listed = among.0; named = one.is.named; types_are = one.is.types_are; footer = one.is.footer })),
-      opened_listed seen types all files heads sources among.1 are.1,
+      opened_listed seen types tokens all files heads sources among.1 are.1,
     )
-opened_listed seen types all (f ∷ files) [] sources among are = absurd are
-opened_listed seen types all (f ∷ files) (h ∷ heads) [] among are = absurd are
+opened_listed seen types tokens all (f ∷ files) [] sources among are = absurd are
+opened_listed seen types tokens all (f ∷ files) (h ∷ heads) [] among are = absurd are
 
-opened_left : (seen : Option Folder) (ms : List MemtableView) (types : List ColumnType) (p : Partitioner) (files : List ListedFile) (contents : List Content) (heads : List Head) (sources : List Source) → AreContents seen p types files contents → AreOpened seen types files heads sources → AreLeft seen p ms heads sources (map (entries_of p) contents)
-opened_left seen ms types p [] [] heads sources have are =
+opened_left : (seen : Option Folder) (ms : List MemtableView) (types : List ColumnType) (tokens : Option Partitioner) (p : Partitioner) (files : List ListedFile) (contents : List Content) (heads : List Head) (sources : List Source) → AgreesWith tokens p → AreContents seen p types files contents → AreOpened seen types tokens files heads sources → AreLeft seen p ms heads sources (map (entries_of p) contents)
+opened_left seen ms types tokens p [] [] heads sources agrees have are =
     subst (λ (hs : List Head). AreLeft seen p ms hs sources []) (sym are.0) (are.1, refl)
-opened_left seen ms types p (f ∷ files) (content ∷ contents) (h ∷ heads) (s ∷ sources) have are =
+opened_left seen ms types tokens p (f ∷ files) (content ∷ contents) (h ∷ heads) (s ∷ sources) agrees have are =
     let one = are.0 in
     let open_in = one.is.opened p content have.0 in
-    let gives = file_left seen p one.scan one.next (entries_of p content) h (record { content = content; is = open_in; left_is = sym (ap (λ n. entries_of p (drop n content)) one.is.begins) }) one.steps in
-    (subst (λ (x : Source). IsLeft seen p ms h x (entries_of p content)) (sym one.source_is) gives, opened_left seen ms types p files contents heads sources have.1 are.1)
-opened_left seen ms types p (f ∷ files) (content ∷ contents) [] sources have are = absurd are
-opened_left seen ms types p (f ∷ files) (content ∷ contents) (h ∷ heads) [] have are = absurd are
-opened_left seen ms types p [] (content ∷ contents) heads sources have are = absurd have
-opened_left seen ms types p (f ∷ files) [] heads sources have are = absurd have
+    let gives = file_left seen p one.scan one.next (entries_of p content) h (record { content = content; is = open_in; agrees = subst (λ (t : Option Partitioner). AgreesWith t p) (sym one.is.tokens_are) agrees; left_is = sym (ap (λ n. entries_of p (drop n content)) one.is.begins) }) one.steps in
+    (subst (λ (x : Source). IsLeft seen p ms h x (entries_of p content)) (sym one.source_is) gives, opened_left seen ms types tokens p files contents heads sources agrees have.1 are.1)
+opened_left seen ms types tokens p (f ∷ files) (content ∷ contents) [] sources agrees have are = absurd are
+opened_left seen ms types tokens p (f ∷ files) (content ∷ contents) (h ∷ heads) [] agrees have are = absurd are
+opened_left seen ms types tokens p [] (content ∷ contents) heads sources agrees have are = absurd have
+opened_left seen ms types tokens p (f ∷ files) [] heads sources agrees have are = absurd have
 
 -- each file is one of all
 contains_first : {X : Type 0} (x : X) (xs : List X) → Contains (x ∷ xs) x
@@ -139,11 +141,11 @@ there_inside (y ∷ xs) zero x is = omega arith
 there_inside (y ∷ xs) (suc n) x is = omega (arith, there_inside xs n x is)
 
 maps_can : (seen : Option Folder) (all : List MemtableView) (n : ℕ) (ms : List MemtableView) → drop n all ≡ ms → CanScan seen all (scan_of (map_heads ms) (map_sources n ms))
-maps_can seen all n [] is = record { can = tt; counted = refl }
+maps_can seen all n [] is = record { can = tt; counted = refl; given = tt }
 maps_can seen all n (m ∷ ms) is =
     let here = first_there all n m ms is in
     let rest = maps_can seen all (suc n) ms here.1 in
-    record { can = (there_inside all n m here.0, rest.can); counted = ap (λ k. suc k) rest.counted }
+    record { can = (there_inside all n m here.0, rest.can); counted = ap (λ k. suc k) rest.counted; given = maps_given n (m ∷ ms) }
 
 maps_of_parts : (types : List ColumnType) (all : List MemtableView) (n : ℕ) (ms : List MemtableView) → AllByRecursion (λ m. Contains all m) ms → AllOf types all (map_heads ms) (map_sources n ms)
 maps_of_parts types all n [] among = record { sources_of = tt; heads_of = tt }
@@ -177,6 +179,7 @@ can_both : (seen : Option Folder) (ms : List MemtableView) (heads : List Head) (
 can_both seen ms heads sources heads_more sources_more first second = record {
   can = all_both (CanStep seen ms) sources sources_more first.can second.can;
   counted = length_both heads heads_more sources sources_more first.counted second.counted;
+  given = both_given heads sources heads_more sources_more first.given second.given;
 }
 
 left_both : (seen : Option Folder) (p : Partitioner) (ms : List MemtableView) (heads : List Head) (sources : List Source) (lefts : List Entries) (heads_more : List Head) (sources_more : List Source) (lefts_more : List Entries) → AreLeft seen p ms heads sources lefts → AreLeft seen p ms heads_more sources_more lefts_more → AreLeft seen p ms (heads ++ heads_more) (sources ++ sources_more) (lefts ++ lefts_more)
@@ -217,30 +220,30 @@ maps_rise (m ∷ maps) = (map_.entries_sorted m.partitions, maps_rise maps)
 
 -- ---- the sources of a scan, once all are opened
 
-module _ (seen : Option Folder) (types : List ColumnType) (files : List ListedFile) (ms : List MemtableView) (heads : List Head) (sources : List Source) (heads_all : List Head) (sources_all : List Source) (opened : AreOpened seen types files heads sources) (heads_are : heads_all ≡ heads ++ map_heads ms) (sources_are : sources_all ≡ sources ++ map_sources 0 ms) where
+module _ (seen : Option Folder) (types : List ColumnType) (tokens : Option Partitioner) (files : List ListedFile) (ms : List MemtableView) (heads : List Head) (sources : List Source) (heads_all : List Head) (sources_all : List Source) (opened : AreOpened seen types tokens files heads sources) (heads_are : heads_all ≡ heads ++ map_heads ms) (sources_are : sources_all ≡ sources ++ map_sources 0 ms) where
   -- what is true of both is true of all
   both_are : (P : List Head → List Source → Type 0) → P (heads ++ map_heads ms) (sources ++ map_sources 0 ms) → P heads_all sources_all
   both_are P is = subst (λ (hs : List Head). P hs sources_all) (sym heads_are) (subst (λ (ss : List Source). P (heads ++ map_heads ms) ss) (sym sources_are) is)
 
   pub scan_can : CanScan seen ms (scan_of heads_all sources_all)
-  scan_can = both_are (λ hs ss. CanScan seen ms (scan_of hs ss)) (can_both seen ms heads sources (map_heads ms) (map_sources 0 ms) (opened_can seen ms types files heads sources opened) (maps_can seen ms 0 ms refl))
+  scan_can = both_are (λ hs ss. CanScan seen ms (scan_of hs ss)) (can_both seen ms heads sources (map_heads ms) (map_sources 0 ms) (opened_can seen ms types tokens files heads sources opened) (maps_can seen ms 0 ms refl))
 
   pub scan_is_of : IsScanOf seen files types ms (scan_of heads_all sources_all)
   scan_is_of =
-      let first = opened_of seen types ms files heads sources opened in
+      let first = opened_of seen types tokens ms files heads sources opened in
       let second = maps_of_parts types ms 0 ms (each_among ms) in
       both_are (λ hs ss. IsScanOf seen files types ms (scan_of hs ss)) (record {
-        listed = all_both (IsListedSource seen files types) sources (map_sources 0 ms) (opened_listed seen types files files heads sources (each_among files) opened) (maps_listed seen files types 0 ms);
+        listed = all_both (IsListedSource seen files types) sources (map_sources 0 ms) (opened_listed seen types tokens files files heads sources (each_among files) opened) (maps_listed seen files types 0 ms);
         sources_of = all_both (IsSourceOf types) sources (map_sources 0 ms) first.sources_of second.sources_of;
         heads_of = all_both (IsHeadOf types ms) heads (map_heads ms) first.heads_of second.heads_of;
       })
 
   -- the whole merge is left
-  pub scan_begins : (p : Partitioner) (contents : List Content) → AreContents seen p types files contents → IsScanning seen p ms (scan_of heads_all sources_all) (map_.entries (merged_parts p contents ms))
-  scan_begins p contents have = record {
+  pub scan_begins : (p : Partitioner) (contents : List Content) → AgreesWith tokens p → AreContents seen p types files contents → IsScanning seen p ms (scan_of heads_all sources_all) (map_.entries (merged_parts p contents ms))
+  scan_begins p contents agrees have = record {
     each = part_entries p contents ms;
     each_is = both_are (λ hs ss. AreLeft seen p ms hs ss (part_entries p contents ms)) (
-        left_both seen p ms heads sources (map (entries_of p) contents) (map_heads ms) (map_sources 0 ms) (map_entries ms) (opened_left seen ms types p files contents heads sources have opened) (maps_left seen p ms 0 ms refl));
+        left_both seen p ms heads sources (map (entries_of p) contents) (map_heads ms) (map_sources 0 ms) (map_entries ms) (opened_left seen ms types tokens p files contents heads sources agrees have opened) (maps_left seen p ms 0 ms refl));
     rising = all_both IsRising (map (entries_of p) contents) (map_entries ms) (contents_rise seen p types files contents have) (maps_rise ms);
     is = refl;
   }
@@ -262,8 +265,8 @@ content_at seen p types (f ∷ files) [] at file have is = absurd have
 
 -- ---- an opened file with its first step, and reads between
 
-pub added_file : (v w : View) (types : List ColumnType) (file : ListedFile) (scan : DataScan) (head : Head) (next : DataScan) (heads : List Head) (sources : List Source) (heads_new : List Head) (sources_new : List Source) → Changes Same v w → IsOpenedFile v.files types file scan → StepsInFile w.files scan head next → heads_new ≡ heads ++ head ∷ [] → sources_new ≡ sources ++ File next ∷ [] → IsAdded (IsOpened v.files types file) heads sources heads_new sources_new
-added_file v w types file scan head next heads sources heads_new sources_new change is steps heads_are sources_are = record {
+pub added_file : (v w : View) (types : List ColumnType) (tokens : Option Partitioner) (file : ListedFile) (scan : DataScan) (head : Head) (next : DataScan) (heads : List Head) (sources : List Source) (heads_new : List Head) (sources_new : List Source) → Changes Same v w → IsOpenedFile v.files types tokens file scan → StepsInFile w.files scan head next → heads_new ≡ heads ++ head ∷ [] → sources_new ≡ sources ++ File next ∷ [] → IsAdded (IsOpened v.files types tokens file) heads sources heads_new sources_new
+added_file v w types tokens file scan head next heads sources heads_new sources_new change is steps heads_are sources_are = record {
   head = head;
   source = File next;
   is = record { scan = scan; next = next; is = is; steps = subst (λ (o : Option Folder). StepsInFile o scan head next) (reads_same v w change) steps; source_is = refl };
@@ -272,11 +275,11 @@ added_file v w types file scan head next heads sources heads_new sources_new cha
 }
 
 -- the next file was added, behind reads
-pub added_next : (v w : View) (types : List ColumnType) (files : List ListedFile) (at : ℕ) (file : ListedFile) (heads : List Head) (sources : List Source) (heads_new : List Head) (sources_new : List Source) → Changes Same v w → at < length files → file ≡ get_or files at file → AreOpened v.files types (take at files) heads sources → IsAdded (IsOpened w.files types file) heads sources heads_new sources_new → AreOpened v.files types (take (at + 1) files) heads_new sources_new
-added_next v w types files at file heads sources heads_new sources_new change inside is are added =
-    subst (λ (fs : List ListedFile). AreOpened v.files types fs heads_new sources_new) (sym (take_next files at file inside is))
-    (opened_more v.files types (take at files) file heads sources heads_new sources_new are
-    (subst (λ (o : Option Folder). IsAdded (IsOpened o types file) heads sources heads_new sources_new) (reads_same v w change) added))
+pub added_next : (v w : View) (types : List ColumnType) (tokens : Option Partitioner) (files : List ListedFile) (at : ℕ) (file : ListedFile) (heads : List Head) (sources : List Source) (heads_new : List Head) (sources_new : List Source) → Changes Same v w → at < length files → file ≡ get_or files at file → AreOpened v.files types tokens (take at files) heads sources → IsAdded (IsOpened w.files types tokens file) heads sources heads_new sources_new → AreOpened v.files types tokens (take (at + 1) files) heads_new sources_new
+added_next v w types tokens files at file heads sources heads_new sources_new change inside is are added =
+    subst (λ (fs : List ListedFile). AreOpened v.files types tokens fs heads_new sources_new) (sym (take_next files at file inside is))
+    (opened_more v.files types tokens (take at files) file heads sources heads_new sources_new are
+    (subst (λ (o : Option Folder). IsAdded (IsOpened o types tokens file) heads sources heads_new sources_new) (reads_same v w change) added))
   where
     take_next : (xs : List ListedFile) (n : ℕ) (x : ListedFile) → n < length xs → x ≡ get_or xs n x → take (n + 1) xs ≡ take n xs ++ x ∷ []
     take_next [] n x short same = absurd (omega arith)
@@ -292,13 +295,22 @@ next_shown v w types files at file f change inside is shown =
     file_shown v.files files types file f (at, inside, sym is)
     (subst (λ (o : Option Folder). OnDamage (λ damage. (bytes : Bytes) → contents_in o (data_name file.number) ≡ Some bytes → ShowsDataFile types (data_name file.number) bytes damage) f) (reads_same v w change) shown)
 
-pub no_false_next : (v w : View) (types : List ColumnType) (files : List ListedFile) (at : ℕ) (file : ListedFile) (f : ReadFault) → Changes Same v w → at < length files → file ≡ get_or files at file → OnDamage (λ _. (p : Partitioner) (content : Content) → HasContent w.files p types file content → ⊥) f → OnDamage (λ _. (p : Partitioner) (contents : List Content) → AreContents v.files p types files contents → ⊥) f
-no_false_next v w types files at file f change inside is no_false =
-    damage_as (λ _. (p : Partitioner) (content : Content) → HasContent w.files p types file content → ⊥) (λ _. (p : Partitioner) (contents : List Content) → AreContents v.files p types files contents → ⊥) f
-    (λ damage none p contents have.
+pub no_false_next : (v w : View) (types : List ColumnType) (tokens : Option Partitioner) (files : List ListedFile) (at : ℕ) (file : ListedFile) (f : ReadFault) → Changes Same v w → at < length files → file ≡ get_or files at file → OnDamage (λ _. (p : Partitioner) (content : Content) → AgreesWith tokens p → HasContent w.files p types file content → ⊥) f → OnDamage (λ _. (p : Partitioner) (contents : List Content) → AgreesWith tokens p → AreContents v.files p types files contents → ⊥) f
+no_false_next v w types tokens files at file f change inside is no_false =
+    damage_as (λ _. (p : Partitioner) (content : Content) → AgreesWith tokens p → HasContent w.files p types file content → ⊥) (λ _. (p : Partitioner) (contents : List Content) → AgreesWith tokens p → AreContents v.files p types files contents → ⊥) f
+    (λ damage none p contents agrees have.
     let one = content_at v.files p types files contents at file have (got files at file inside is) in
-    none p one.0 (subst (λ (o : Option Folder). HasContent o p types file one.0) (sym (reads_same v w change)) one.1))
+    none p one.0 agrees (subst (λ (o : Option Folder). HasContent o p types file one.0) (sym (reads_same v w change)) one.1))
     no_false
+
+-- the same of a file in which one key is looked up, by the tokens of its key tree
+pub no_false_find : (v w : View) (types : List ColumnType) (files : List ListedFile) (at : ℕ) (file : ListedFile) (f : ReadFault) → Changes Same v w → at < length files → file ≡ get_or files at file → OnDamage (λ _. (p : Partitioner) (content : Content) → HasContent w.files p types file content → ⊥) f → OnDamage (λ _. (p : Partitioner) (contents : List Content) → AreContents v.files p types files contents → ⊥) f
+no_false_find v w types files at file f change inside is no_false =
+    damage_as (λ _. (p : Partitioner) (contents : List Content) → AgreesWith None p → AreContents v.files p types files contents → ⊥) (λ _. (p : Partitioner) (contents : List Content) → AreContents v.files p types files contents → ⊥) f
+    (λ damage none p contents have. none p contents tt have)
+    (no_false_next v w types None files at file f change inside is
+    (damage_as (λ _. (p : Partitioner) (content : Content) → HasContent w.files p types file content → ⊥) (λ _. (p : Partitioner) (content : Content) → AgreesWith None p → HasContent w.files p types file content → ⊥) f
+    (λ damage none p content agrees have. none p content have) no_false))
 
 -- the listed file is there, behind reads
 pub still_there : (v w : View) (files : List ListedFile) (at : ℕ) (file : ListedFile) → Changes Same v w → at < length files → file ≡ get_or files at file → AllByRecursion (λ (f : ListedFile). IsThere v (data_name f.number)) files → IsThere w (data_name file.number)
@@ -307,8 +319,8 @@ still_there v w files at file change inside is there =
     (all_at (λ (f : ListedFile). IsThere v (data_name f.number)) files at file there (got files at file inside is))
 
 -- all files were opened
-pub opened_all : (seen : Option Folder) (types : List ColumnType) (files : List ListedFile) (at : ℕ) (heads : List Head) (sources : List Source) → length files ≤ at → AreOpened seen types (take at files) heads sources → AreOpened seen types files heads sources
-opened_all seen types files at heads sources most are = subst (λ (fs : List ListedFile). AreOpened seen types fs heads sources) (whole files at most) are
+pub opened_all : (seen : Option Folder) (types : List ColumnType) (tokens : Option Partitioner) (files : List ListedFile) (at : ℕ) (heads : List Head) (sources : List Source) → length files ≤ at → AreOpened seen types tokens (take at files) heads sources → AreOpened seen types tokens files heads sources
+opened_all seen types tokens files at heads sources most are = subst (λ (fs : List ListedFile). AreOpened seen types tokens fs heads sources) (whole files at most) are
   where
     whole : (xs : List ListedFile) (n : ℕ) → length xs ≤ n → take n xs ≡ xs
     whole [] zero most = refl

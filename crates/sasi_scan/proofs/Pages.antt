@@ -116,21 +116,21 @@ pages_push seen [] source = omega arith
 pages_push seen (s ∷ sources) source = omega (arith, pages_push seen sources source)
 
 -- an opened file is scanned from its start
-opened_paged : (v : View) (p : Partitioner) (types : List ColumnType) (file : ListedFile) (content : Content) (scan : DataScan) → IsOpenedFile v.files types file scan → HasContent v.files p types file content → IsPaged v.files p (File scan)
-opened_paged v p types file content scan is has =
+opened_paged : (v : View) (p : Partitioner) (types : List ColumnType) (tokens : Option Partitioner) (file : ListedFile) (content : Content) (scan : DataScan) → IsOpenedFile v.files types tokens file scan → HasContent v.files p types file content → IsPaged v.files p (File scan)
+opened_paged v p types tokens file content scan is has =
     let open_in = is.opened p content has in
     record { content = content; is = open_in; sequential = begins_sequential open_in.bytes content scan is.no_pairs_buffered is.nothing_buffered }
 
 -- its first step may fail, or what follows it
-pub open_stops : {T : Type 0} (v w u : View) (p : Partitioner) (types : List ColumnType) (file : ListedFile) (content : Content) (scan : DataScan) (after : Source) (result : Result T ReadFault) → Changes Same v w → IsOpenedFile v.files types file scan → HasContent v.files p types file content → w.reads ≤ v.reads + 3 → StepsWithin w.files p (File scan) after w.reads u.reads result → u.reads ≤ v.reads + (3 + 2 * pages_in v.files (data_name file.number))
-open_stops v w u p types file content scan after result change is has three steps =
+pub open_stops : {T : Type 0} (v w u : View) (p : Partitioner) (types : List ColumnType) (tokens : Option Partitioner) (file : ListedFile) (content : Content) (scan : DataScan) (after : Source) (result : Result T ReadFault) → Changes Same v w → IsOpenedFile v.files types tokens file scan → HasContent v.files p types file content → w.reads ≤ v.reads + 3 → StepsWithin w.files p (File scan) after w.reads u.reads result → u.reads ≤ v.reads + (3 + 2 * pages_in v.files (data_name file.number))
+open_stops v w u p types tokens file content scan after result change is has three steps =
     let step = subst (λ (o : Option Folder). StepsWithin o p (File scan) after w.reads u.reads result) (reads_same v w change) steps in
-    let within = step_within v.files p (File scan) after w.reads u.reads result step (opened_paged v p types file content scan is has) in
+    let within = step_within v.files p (File scan) after w.reads u.reads result step (opened_paged v p types tokens file content scan is has) in
     omega (arith, three, within, ap (pages_in v.files) is.named)
 
-pub open_reads : (v w u : View) (p : Partitioner) (types : List ColumnType) (file : ListedFile) (content : Content) (scan : DataScan) (after : Source) (olds news : List Source) → Changes Same v w → IsOpenedFile v.files types file scan → HasContent v.files p types file content → w.reads ≤ v.reads + 3 → StepsReading w.files p (File scan) after w.reads u.reads → news ≡ olds ++ after ∷ [] → AllByRecursion (IsPaged v.files p) olds → OpensReading v.files p (3 + 2 * pages_in v.files (data_name file.number)) olds news v.reads u.reads
-open_reads v w u p types file content scan after olds news change is has three steps news_are paged =
-    let step = subst (λ (o : Option Folder). StepsReading o p (File scan) after w.reads u.reads) (reads_same v w change) steps (opened_paged v p types file content scan is has) in
+pub open_reads : (v w u : View) (p : Partitioner) (types : List ColumnType) (tokens : Option Partitioner) (file : ListedFile) (content : Content) (scan : DataScan) (after : Source) (olds news : List Source) → Changes Same v w → IsOpenedFile v.files types tokens file scan → HasContent v.files p types file content → w.reads ≤ v.reads + 3 → StepsReading w.files p (File scan) after w.reads u.reads → news ≡ olds ++ after ∷ [] → AllByRecursion (IsPaged v.files p) olds → OpensReading v.files p (3 + 2 * pages_in v.files (data_name file.number)) olds news v.reads u.reads
+open_reads v w u p types tokens file content scan after olds news change is has three steps news_are paged =
+    let step = subst (λ (o : Option Folder). StepsReading o p (File scan) after w.reads u.reads) (reads_same v w change) steps (opened_paged v p types tokens file content scan is has) in
     let named = ap (pages_in v.files) is.named in
     let pages = pages_push v.files olds after in
     record {

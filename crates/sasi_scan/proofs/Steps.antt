@@ -1,10 +1,11 @@
 -- Steps of a source: what it has left afterwards, and what stays true of it.
-use Rattle.std.proofs.Common.{◌≡◌, ◌<◌, ◌&&◌, ℕ, suc, zero, Bool, true, false, cond, if◌then◌else◌, T, List, [], ◌∷◌, ◌++◌, drop, length, slice_get, Option, None, Some, IfErr, IfOk, IfSome, IsSome, Result, Ok, Err, refl, sym, ap, subst, ◌∙◌, arith}
+use Rattle.std.proofs.Common.{◌≡◌, ◌<◌, ◌&&◌, ℕ, suc, zero, Bool, true, false, cond, if◌then◌else◌, T, List, [], ◌∷◌, ◌++◌, drop, length, slice_get, Option, None, Some, IfErr, IfOk, IfSome, IsSome, OnOk, Result, Ok, Err, refl, sym, ap, subst, ◌∙◌, arith}
 use Rattle.std.proofs.lemmas.Cmp.{tied_itself}
 use Rattle.std.specs.BTreeMap.Range.{range_contains}
 use Rattle.std.specs.FinMap as map_
 use Rattle.std.specs.FinMap.Entries.{below_all}
 use Rattle.std.specs.List.{Contains}
+use Rattle.std.specs.Option.{option_map, option_or}
 use Rattle.std.specs.Ordering.{is_lt, ordering_reverse}
 use Rattle.std.specs.declared.cmp.Ordering.{Ordering}
 use Rattle.std.specs.declared.cmp.Ordering.TheVariants.{Less, Equal, Greater}
@@ -32,7 +33,10 @@ use Rattle.sasi_dataread.specs.Damages.{ShowsDataFile, ShowsHeaderOrFooter, insi
 use Rattle.sasi_dataread.specs.HeaderAndFooter.{HasHeaderAndFooter}
 use Rattle.sasi_dataread.specs.Opened.{IsOpenedAs, OpenDataFile}
 use Rattle.sasi_dataread.specs.Reads.{IsOpenOn, NoFalseDataDamage}
-use Rattle.sasi_dataread.specs.Scans.{DataScan, NoFalseOpenedDamage, ReadsNextPartition, StepsToPartition}
+use Rattle.sasi_tokentree.specs.Scans.{IsAtLast}
+use Rattle.sasi_dataread.specs.KeyOrder.{IsLastKey, KeyRises, key_of}
+use Rattle.sasi_dataread.specs.Tokens.{AgreesWith, token_by}
+use Rattle.sasi_dataread.specs.Scans.{DataScan, NoFalseScanDamage, PassesPartition, ReadsNextPartition, StepsToPartition, pairs_of}
 use Rattle.sasi_manifest.specs.declared.files.ListedFile.{ListedFile}
 use Rattle.sasi_memtable.specs.MemtableView.{MemtableView, entries_after}
 use Rattle.sasi_merge.specs.Merging.{Head}
@@ -40,7 +44,7 @@ use Rattle.sasi_merge.specs.Streams.{Entries, IsRising, behind, head_of}
 use Rattle.sasi_scan.specs.declared.source.Source.{Source}
 use Rattle.sasi_scan.specs.declared.source.Source.TheVariants.{File, Map}
 use Rattle.sasi_scan.specs.Parts.{HasContent, IsOfPart, ShowsListed, entries_of, of_file, of_map}
-use Rattle.sasi_scan.specs.Sources.{AreOfPart, CanStep, CanWalk, IsHeadOf, IsListedFile, IsListedSource, IsOpenIn, IsSourceOf, NoFalseSourceDamage, ShowsSource, StepsInFile, StepsTo, numbers_of}
+use Rattle.sasi_scan.specs.Sources.{AreOfPart, CanStep, CanWalk, HasTokenOf, IsHeadOf, IsListedFile, IsListedSource, IsOpenIn, IsSourceOf, NoFalseSourceDamage, ShowsSource, StepsInFile, StepsTo, numbers_of}
 use Rattle.sasi_scan.specs.Left.{HasLeftInFile, IsLeft, IsLeftInFile}
 use Rattle.sasi_scan.specs.Opening.{IsOpenedFile}
 use Rattle.sasi_scan.proofs.Costs.{reads_same}
@@ -48,30 +52,33 @@ use Rattle.sasi_scan.proofs.Costs.{reads_same}
 -- ---- what is left
 
 -- a scan of a data file that had these left gives the first of them, and has the others left
-in_file : (seen : Option Folder) (p : Partitioner) (old new : DataScan) (left : Entries) (head : Head) (content : Content) → IsOpenIn seen old.opened p content → new.opened ≡ old.opened → left ≡ entries_of p (drop old.passed content) → StepsToPartition p content old.passed new.passed head → IsLeftInFile seen p head new left
-in_file seen p old new left None content is same left_is steps =
+in_file : (seen : Option Folder) (p : Partitioner) (old new : DataScan) (left : Entries) (head : Head) (content : Content) → IsOpenIn seen old.opened p content → AgreesWith new.tokens p → new.opened ≡ old.opened → left ≡ entries_of p (drop old.passed content) → StepsToPartition p content old.passed new.passed head → IsLeftInFile seen p head new left
+in_file seen p old new left None content is agrees same left_is steps =
     let none : left ≡ [] = left_is ∙ ap (entries_of p) steps.0 in
     record {
       head_is = sym (ap head_of none);
       behind_it = record {
         content = content;
         is = subst (λ (o : OpenDataFile). IsOpenIn seen o p content) (sym same) is;
+        agrees = agrees;
         left_is = ap behind none ∙ sym (ap (entries_of p) (ap (λ n. drop n content) steps.1 ∙ steps.0));
       };
     }
-in_file seen p old new left (Some one) content is same left_is steps =
+in_file seen p old new left (Some one) content is agrees same left_is steps =
     let some : left ≡ (decorated p one.1, one.2) ∷ entries_of p (drop new.passed content) = left_is ∙ ap (entries_of p) steps.0 in
     record {
       head_is = ap (λ t. Some (t, one.1, one.2)) steps.1 ∙ sym (ap head_of some);
       behind_it = record {
         content = content;
         is = subst (λ (o : OpenDataFile). IsOpenIn seen o p content) (sym same) is;
+        agrees = agrees;
         left_is = ap behind some;
       };
     }
 
 pub file_left : (seen : Option Folder) (p : Partitioner) (old new : DataScan) (left : Entries) (head : Head) → HasLeftInFile seen p old left → StepsInFile seen old head new → IsLeftInFile seen p head new left
-file_left seen p old new left head has steps = in_file seen p old new left head has.content has.is steps.opened has.left_is (steps.next p has.content has.is)
+file_left seen p old new left head has steps =
+    in_file seen p old new left head has.content has.is (subst (λ (tokens : Option Partitioner). AgreesWith tokens p) (sym steps.tokens) has.agrees) steps.opened has.left_is (steps.next p has.content has.agrees has.is)
 
 -- ---- behind a key
 
@@ -197,7 +204,7 @@ source_shown seen files types (Map position) (fault.Damaged damage) listed shown
 pub no_false_source : (seen : Option Folder) (p : Partitioner) (ms : List MemtableView) (head : Head) (source : Source) (left : Entries) (f : ReadFault) → IsLeft seen p ms head source left → NoFalseSourceDamage seen source f → OnDamage (λ _. ⊥) f
 no_false_source seen p ms head (File scan) left fault.Failed has no_false = tt
 no_false_source seen p ms head (File scan) left fault.OutOfMemory has no_false = tt
-no_false_source seen p ms head (File scan) left (fault.Damaged damage) has no_false = no_false p has.behind_it.content has.behind_it.is
+no_false_source seen p ms head (File scan) left (fault.Damaged damage) has no_false = no_false p has.behind_it.content has.behind_it.agrees has.behind_it.is
 no_false_source seen p ms head (Map position) left fault.Failed has no_false = tt
 no_false_source seen p ms head (Map position) left fault.OutOfMemory has no_false = tt
 no_false_source seen p ms head (Map position) left (fault.Damaged damage) has no_false = no_false
@@ -208,30 +215,43 @@ open_on : (v : View) (opened : OpenDataFile) (p : Partitioner) (content : Conten
 open_on v opened p content is = record { bytes = is.bytes; reads = is.reads; data_file = is.data_file; of = is.of }
 
 -- the scan can go on after reads
-pub scan_on : (v w : View) (old new : DataScan) → Changes Same v w → CanWalk v.files old → new.opened ≡ old.opened → new.pairs_buffered.file ≡ new.opened.file → new.buffered.file ≡ new.opened.file → IsBuffered new.pairs_buffered w.files → IsBuffered new.buffered w.files → CanWalk v.files new
-scan_on v w old new change can same pairs_named named pairs part = record {
+pub scan_on : (v w : View) (old new : DataScan) → Changes Same v w → CanWalk v.files old → new.opened ≡ old.opened → new.pairs_buffered.file ≡ new.opened.file → new.buffered.file ≡ new.opened.file → IsBuffered new.pairs_buffered w.files → IsBuffered new.buffered w.files → IsAtLast (pairs_of new) w.files → IsLastKey w.files new.opened new.tokens new.passed new.last → CanWalk v.files new
+scan_on v w old new change can same pairs_named named pairs part last key = record {
   there = subst (λ (o : OpenDataFile). IsSome v.files → IsSome (contents_in v.files o.file)) (sym same) can.there;
   pairs_named = pairs_named;
   named = named;
   pairs_buffered = subst (IsBuffered new.pairs_buffered) (reads_same v w change) pairs;
   buffered = subst (IsBuffered new.buffered) (reads_same v w change) part;
+  at_last = subst (IsAtLast (pairs_of new)) (reads_same v w change) last;
+  last_key = subst (λ (o : Option Folder). IsLastKey o new.opened new.tokens new.passed new.last) (reads_same v w change) key;
 }
 
-pub scan_steps : (v w : View) (old new : DataScan) (result : Result Head ReadFault) → Changes Same v w → CanWalk v.files old → new.opened ≡ old.opened → new.pairs_buffered.file ≡ new.opened.file → new.buffered.file ≡ new.opened.file → IsBuffered new.pairs_buffered w.files → IsBuffered new.buffered w.files
-    → IfOk result (λ found. ReadsNextPartition v old.opened old.passed new.passed found) → IfOk result (λ found. IfSome found (λ one. IsBodyOf old.opened.types one.1 one.2)) → IfOk result (λ head. StepsInFile v.files old head new)
-scan_steps v w old new (Ok head) change can same pairs_named named pairs part next in_table = record {
-  can = scan_on v w old new change can same pairs_named named pairs part;
+-- the token of what is given is that of its key under the scan's partitioner
+token_under : (v : View) (opened : OpenDataFile) (tokens : Option Partitioner) (before after : ℕ) (p : Partitioner) (head : Head) → tokens ≡ Some p → PassesPartition v opened tokens before after head → HasTokenOf p head
+token_under v opened tokens before after p None is passes = tt
+token_under v opened tokens before after p (Some one) is passes = passes.3 ∙ ap (λ (t : Option Partitioner). token_by t passes.2 one.1) is
+
+pub scan_steps : (v w : View) (old new : DataScan) (result : Result Head ReadFault) → Changes Same v w → CanWalk v.files old → new.opened ≡ old.opened → new.pairs_buffered.file ≡ new.opened.file → new.buffered.file ≡ new.opened.file → IsBuffered new.pairs_buffered w.files → IsBuffered new.buffered w.files → IsAtLast (pairs_of new) w.files → OnOk result (IsLastKey w.files new.opened new.tokens new.passed new.last)
+    → new.tokens ≡ old.tokens → IfOk result (KeyRises old.last) → IfOk result (λ found. new.last ≡ option_or (option_map key_of found) old.last) → IfOk result (PassesPartition v old.opened old.tokens old.passed new.passed)
+    → IfOk result (λ found. ReadsNextPartition v old.opened old.tokens old.passed new.passed found) → IfOk result (λ found. IfSome found (λ one. IsBodyOf old.opened.types one.1 one.2)) → IfOk result (λ head. StepsInFile v.files old head new)
+scan_steps v w old new (Ok head) change can same pairs_named named pairs part last key tokens_are rises last_is passes next in_table = record {
+  can = scan_on v w old new change can same pairs_named named pairs part last key;
   opened = same;
+  tokens = tokens_are;
   in_table = in_table;
-  next = λ p content is. next p content (open_on v old.opened p content is) is.keys;
+  rises = rises;
+  last_is = last_is;
+  token_is = λ p is. token_under v old.opened old.tokens old.passed new.passed p head is passes;
+  ends = λ none. (subst (PassesPartition v old.opened old.tokens old.passed new.passed) none passes).0;
+  next = λ p content agrees is. next p content agrees (open_on v old.opened p content is) is.keys;
 }
-scan_steps v w old new (Err f) change can same pairs_named named pairs part next in_table = tt
+scan_steps v w old new (Err f) change can same pairs_named named pairs part last key tokens_are rises last_is passes next in_table = tt
 
-pub no_false_scan : (v : View) (scan : DataScan) (result : Result Head ReadFault) → IfErr result (NoFalseOpenedDamage v scan.opened) → IfErr result (NoFalseSourceDamage v.files (File scan))
+pub no_false_scan : (v : View) (scan : DataScan) (result : Result Head ReadFault) → IfErr result (NoFalseScanDamage v scan.opened scan.tokens) → IfErr result (NoFalseSourceDamage v.files (File scan))
 no_false_scan v scan (Ok head) no_false = tt
 no_false_scan v scan (Err fault.Failed) no_false = tt
 no_false_scan v scan (Err fault.OutOfMemory) no_false = tt
-no_false_scan v scan (Err (fault.Damaged damage)) no_false = λ p content is. no_false p content (open_on v scan.opened p content is) is.keys
+no_false_scan v scan (Err (fault.Damaged damage)) no_false = λ p content agrees is. no_false p content agrees (open_on v scan.opened p content is) is.keys
 
 -- ---- the opening of a file, by what it promises
 
@@ -247,13 +267,15 @@ opened_in v types file opened named types_are opens p content has = record {
 }
 
 -- a scan before the first partition
-pub opened_file : (v : View) (types : List ColumnType) (file : ListedFile) (opened : OpenDataFile) (scan : DataScan) → IsThere v (data_name file.number) → opened.file ≡ data_name file.number → opened.types ≡ types
+pub opened_file : (v : View) (types : List ColumnType) (tokens : Option Partitioner) (file : ListedFile) (opened : OpenDataFile) (scan : DataScan) → 0 < opened.tree.pairs → IsThere v (data_name file.number) → opened.file ≡ data_name file.number → opened.types ≡ types
     → ((bytes : Bytes) (p : Partitioner) (content : Content) → contents v (data_name file.number) ≡ Some bytes → IsDataFile p types bytes content → IsOpenedAs opened p content)
     → ((bytes : Bytes) → contents v (data_name file.number) ≡ Some bytes → HasHeaderAndFooter bytes (numbers_of opened))
-    → scan ≡ record { opened = opened; passed = 0; pairs_buffered = record { file = opened.file; page = None; bytes = [] }; buffered = record { file = opened.file; page = None; bytes = [] } } → IsOpenedFile v.files types file scan
-opened_file v types file opened scan there named types_are opens footer is = subst (IsOpenedFile v.files types file) (sym is) (record {
+    → scan ≡ record { opened = opened; tokens = tokens; passed = 0; pairs_buffered = record { file = opened.file; page = None; bytes = [] }; buffered = record { file = opened.file; page = None; bytes = [] }; last_pair = None; last = None } → IsOpenedFile v.files types tokens file scan
+opened_file v types tokens file opened scan some there named types_are opens footer is = subst (IsOpenedFile v.files types tokens file) (sym is) (record {
   named = named;
   types_are = types_are;
+  tokens_are = refl;
+  some = some;
   begins = refl;
   no_pairs_buffered = refl;
   nothing_buffered = refl;
@@ -263,6 +285,8 @@ opened_file v types file opened scan there named types_are opens footer is = sub
     named = refl;
     pairs_buffered = nothing_buffered _ v.files refl;
     buffered = nothing_buffered _ v.files refl;
+    at_last = λ bytes reads. tt;
+    last_key = record { holds = λ bytes reads. tt; content = λ bytes p content agrees reads data_file of keys. tt };
   };
   footer = λ bytes reads. footer bytes (sym (ap (contents_in v.files) named) ∙ reads);
   opened = opened_in v types file opened named types_are opens;
@@ -282,16 +306,16 @@ no_false_opening v types file (fault.Damaged damage) no_false = λ p content has
 -- ---- the first step of an opened file
 
 -- what the first step shows is that of the file
-pub first_shown : (v : View) (types : List ColumnType) (file : ListedFile) (scan : DataScan) (f : ReadFault) → IsOpenedFile v.files types file scan → ShowsSource v.files (File scan) f → OnDamage (λ damage. (bytes : Bytes) → contents_in v.files (data_name file.number) ≡ Some bytes → ShowsDataFile types (data_name file.number) bytes damage) f
-first_shown v types file scan fault.Failed is shown = tt
-first_shown v types file scan fault.OutOfMemory is shown = tt
-first_shown v types file scan (fault.Damaged damage) is shown = λ bytes reads.
+pub first_shown : (v : View) (types : List ColumnType) (tokens : Option Partitioner) (file : ListedFile) (scan : DataScan) (f : ReadFault) → IsOpenedFile v.files types tokens file scan → ShowsSource v.files (File scan) f → OnDamage (λ damage. (bytes : Bytes) → contents_in v.files (data_name file.number) ≡ Some bytes → ShowsDataFile types (data_name file.number) bytes damage) f
+first_shown v types tokens file scan fault.Failed is shown = tt
+first_shown v types tokens file scan fault.OutOfMemory is shown = tt
+first_shown v types tokens file scan (fault.Damaged damage) is shown = λ bytes reads.
     let there : contents_in v.files scan.opened.file ≡ Some bytes = ap (contents_in v.files) is.named ∙ reads in
     subst (λ (n : FileName). ShowsDataFile types n bytes damage) is.named
     (subst (λ (k : List ColumnType). ShowsDataFile k scan.opened.file bytes damage) is.types_are
     (inside (numbers_of scan.opened) (is.footer bytes there) (shown bytes there)))
 
-pub no_false_first : (v : View) (types : List ColumnType) (file : ListedFile) (scan : DataScan) (f : ReadFault) → IsOpenedFile v.files types file scan → NoFalseSourceDamage v.files (File scan) f → OnDamage (λ _. (p : Partitioner) (content : Content) → HasContent v.files p types file content → ⊥) f
-no_false_first v types file scan fault.Failed is no_false = tt
-no_false_first v types file scan fault.OutOfMemory is no_false = tt
-no_false_first v types file scan (fault.Damaged damage) is no_false = λ p content has. no_false p content (is.opened p content has)
+pub no_false_first : (v : View) (types : List ColumnType) (tokens : Option Partitioner) (file : ListedFile) (scan : DataScan) (f : ReadFault) → IsOpenedFile v.files types tokens file scan → NoFalseSourceDamage v.files (File scan) f → OnDamage (λ _. (p : Partitioner) (content : Content) → AgreesWith tokens p → HasContent v.files p types file content → ⊥) f
+no_false_first v types tokens file scan fault.Failed is no_false = tt
+no_false_first v types tokens file scan fault.OutOfMemory is no_false = tt
+no_false_first v types tokens file scan (fault.Damaged damage) is no_false = λ p content agrees has. no_false p content (subst (λ (t : Option Partitioner). AgreesWith t p) (sym is.tokens_are) agrees) (is.opened p content has)

@@ -3,12 +3,15 @@ use Rattle.std.specs.Prelude.{◌≡◌, ◌⊎◌, ℕ, List, Option, refl}
 use Rattle.std.proofs.Common.{inl, inr}
 use Rattle.std.specs.Coded.{Coded, code_by, coded×, coded⊎, coded_ℕ, coded_list, coded_option}
 use Rattle.sasi_types.specs.declared.column.ColumnType.{ColumnType}
+use Rattle.sasi_types.specs.declared.decorated_key.DecoratedKey.{DecoratedKey}
+use Rattle.sasi_types.specs.declared.partitioner.Partitioner.{Partitioner}
+use Rattle.sasi_types.specs.declared.tree.Pair.{Pair}
 use Rattle.sasi_types.specs.declared.tree.TreeRef.{TreeRef}
 use Rattle.sasi_host.specs.declared.name.FileName.{FileName}
 use Rattle.sasi_host.specs.Buffered.{Buffered}
 use Rattle.sasi_host.specs.Files.{name_code}
 use Rattle.sasi_host.specs.Names.{Bytes}
-use Rattle.sasi_model.specs.Codes.{coded_column_type}
+use Rattle.sasi_model.specs.Codes.{coded_column_type, coded_partitioner}
 use Rattle.sasi_dataread.specs.Opened.{OpenDataFile}
 use Rattle.sasi_dataread.specs.Scans.{DataScan}
 use Rattle.sasi_merge.specs.Merging.{Head, coded_head}
@@ -29,10 +32,18 @@ coded_opened =
     code_by (FileName × (List ColumnType × (TreeRef × (ℕ × ℕ)))) (coded× name_code (coded× (coded_list coded_column_type) (coded× coded_tree (coded× coded_ℕ coded_ℕ))))
     (λ o. (o.file, (o.types, (o.tree, (o.max_timestamp, o.end))))) (λ c. record { file = c.0; types = c.1.0; tree = c.1.1.0; max_timestamp = c.1.1.1.0; end = c.1.1.1.1 }) (λ _. refl)
 
+abbrev coded_pair : Coded Pair
+coded_pair = code_by (ℕ × ℕ) (coded× coded_ℕ coded_ℕ) (λ p. (p.token, p.place)) (λ c. record { token = c.0; place = c.1 }) (λ _. refl)
+
+abbrev coded_key : Coded DecoratedKey
+coded_key = code_by (ℕ × List ℕ) (coded× coded_ℕ (coded_list coded_ℕ)) (λ k. (k.token, k.key)) (λ c. record { token = c.0; key = c.1 }) (λ _. refl)
+
 abbrev coded_data_scan : Coded DataScan
 coded_data_scan =
-    code_by (OpenDataFile × (ℕ × (Buffered × Buffered))) (coded× coded_opened (coded× coded_ℕ (coded× coded_buffered coded_buffered)))
-    (λ s. (s.opened, (s.passed, (s.pairs_buffered, s.buffered)))) (λ c. record { opened = c.0; passed = c.1.0; pairs_buffered = c.1.1.0; buffered = c.1.1.1 }) (λ _. refl)
+    code_by (OpenDataFile × (Option Partitioner × (ℕ × (Buffered × (Buffered × (Option Pair × Option DecoratedKey))))))
+    (coded× coded_opened (coded× (coded_option coded_partitioner) (coded× coded_ℕ (coded× coded_buffered (coded× coded_buffered (coded× (coded_option coded_pair) (coded_option coded_key)))))))
+    (λ s. (s.opened, (s.tokens, (s.passed, (s.pairs_buffered, (s.buffered, (s.last_pair, s.last)))))))
+    (λ c. record { opened = c.0; tokens = c.1.0; passed = c.1.1.0; pairs_buffered = c.1.1.1.0; buffered = c.1.1.1.1.0; last_pair = c.1.1.1.1.1.0; last = c.1.1.1.1.1.1 }) (λ _. refl)
 
 abbrev split : Source → DataScan ⊎ ℕ
 split (File scan) = inl scan

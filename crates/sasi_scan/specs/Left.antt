@@ -5,6 +5,7 @@ use Rattle.sasi_types.specs.declared.partitioner.Partitioner.{Partitioner}
 use Rattle.sasi_host.specs.Names.{Folder}
 use Rattle.sasi_datawrite.specs.Format.{Content}
 use Rattle.sasi_dataread.specs.Scans.{DataScan}
+use Rattle.sasi_dataread.specs.Tokens.{AgreesWith}
 use Rattle.sasi_memtable.specs.MemtableView.{MemtableView}
 use Rattle.sasi_merge.specs.Merging.{Head}
 use Rattle.sasi_merge.specs.Streams.{Entries, behind, head_of}
@@ -15,10 +16,11 @@ use Rattle.sasi_scan.specs.declared.source.Source.TheVariants.{File, Map}
 
 -- ---- one source
 
--- the scan has these partitions of the content of its file left
+-- the scan has these partitions of the content of its file left, under the partitioner of its tokens
 pub record HasLeftInFile (seen : Option Folder) (partitioner : Partitioner) (scan : DataScan) (left : Entries) : Type 0 where
   pub content : Content
   pub is : IsOpenIn seen scan.opened partitioner content
+  pub agrees : AgreesWith scan.tokens partitioner
   pub left_is : left ≡ entries_of partitioner (drop scan.passed content)
 
 -- of these partitions the first is the head, and the scan has the others left

@@ -5,5 +5,6 @@ pub mod Left
 pub mod Opening
 pub mod Paging
 pub mod Scanning
+pub mod KeyOrder
 pub mod Codes
 pub mod Finding

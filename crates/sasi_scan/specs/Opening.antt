@@ -1,5 +1,5 @@
 -- The opening of the sources of listed data files, each with its first head.
-use Rattle.std.specs.Prelude.{◌≡◌, ℕ, List, [], ◌∷◌, ◌++◌, map, Option, None, Some, suc, zero}
+use Rattle.std.specs.Prelude.{◌≡◌, ◌<◌, ℕ, List, [], ◌∷◌, ◌++◌, map, Option, None, Some, suc, zero}
 use Rattle.std.specs.FinMap as map_
 use Rattle.sasi_types.specs.declared.column.ColumnType.{ColumnType}
 use Rattle.sasi_types.specs.declared.partitioner.Partitioner.{Partitioner}
@@ -17,10 +17,12 @@ use Rattle.sasi_scan.specs.Sources.{CanWalk, IsOpenIn, StepsInFile, numbers_of}
 use Rattle.sasi_scan.specs.declared.source.Source.{Source}
 use Rattle.sasi_scan.specs.declared.source.Source.TheVariants.{File, Map}
 
--- the scan of the listed file, before its first partition
-pub record IsOpenedFile (seen : Option Folder) (types : List ColumnType) (file : ListedFile) (scan : DataScan) : Type 0 where
+-- the scan of the listed file with these tokens, before its first partition; it has one
+pub record IsOpenedFile (seen : Option Folder) (types : List ColumnType) (tokens : Option Partitioner) (file : ListedFile) (scan : DataScan) : Type 0 where
   pub named : scan.opened.file ≡ data_name file.number
   pub types_are : scan.opened.types ≡ types
+  pub tokens_are : scan.tokens ≡ tokens
+  pub some : 0 < scan.opened.tree.pairs
   pub begins : scan.passed ≡ zero
   pub no_pairs_buffered : scan.pairs_buffered.page ≡ None
   pub nothing_buffered : scan.buffered.page ≡ None
@@ -29,18 +31,18 @@ pub record IsOpenedFile (seen : Option Folder) (types : List ColumnType) (file :
   pub opened : (partitioner : Partitioner) (content : Content) → HasContent seen partitioner types file content → IsOpenIn seen scan.opened partitioner content
 
 -- the listed file was opened, and its first head was read
-pub record IsOpened (seen : Option Folder) (types : List ColumnType) (file : ListedFile) (head : Head) (source : Source) : Type 0 where
+pub record IsOpened (seen : Option Folder) (types : List ColumnType) (tokens : Option Partitioner) (file : ListedFile) (head : Head) (source : Source) : Type 0 where
   pub scan : DataScan
   pub next : DataScan
-  pub is : IsOpenedFile seen types file scan
+  pub is : IsOpenedFile seen types tokens file scan
   pub steps : StepsInFile seen scan head next
   pub source_is : source ≡ File next
 
-abbrev pub AreOpened : Option Folder → List ColumnType → List ListedFile → List Head → List Source → Type 0
-AreOpened seen types [] heads sources = (heads ≡ []) × (sources ≡ [])
-AreOpened seen types (file ∷ files) [] sources = ⊥
-AreOpened seen types (file ∷ files) (head ∷ heads) [] = ⊥
-AreOpened seen types (file ∷ files) (head ∷ heads) (source ∷ sources) = IsOpened seen types file head source × AreOpened seen types files heads sources
+abbrev pub AreOpened : Option Folder → List ColumnType → Option Partitioner → List ListedFile → List Head → List Source → Type 0
+AreOpened seen types tokens [] heads sources = (heads ≡ []) × (sources ≡ [])
+AreOpened seen types tokens (file ∷ files) [] sources = ⊥
+AreOpened seen types tokens (file ∷ files) (head ∷ heads) [] = ⊥
+AreOpened seen types tokens (file ∷ files) (head ∷ heads) (source ∷ sources) = IsOpened seen types tokens file head source × AreOpened seen types tokens files heads sources
 
 -- a source with its head was added, of which P is true
 pub record IsAdded (P : Head → Source → Type 0) (heads : List Head) (sources : List Source) (heads_new : List Head) (sources_new : List Source) : Type 0 where

@@ -15,7 +15,7 @@ use Rattle.sasi_merge.specs.Merging.{Head, with_token}
 use Rattle.sasi_merge.specs.Streams.{Entries, IsRising, merged_entries}
 use Rattle.sasi_scan.specs.Left.{AreLeft}
 use Rattle.sasi_scan.specs.Paging.{IsPaged, all_pages_left}
-use Rattle.sasi_scan.specs.Sources.{CanStep, IsHeadOf, IsListedSource, IsSourceOf}
+use Rattle.sasi_scan.specs.Sources.{AreGiven, CanStep, IsHeadOf, IsListedSource, IsSourceOf}
 use Rattle.sasi_scan.specs.declared.source.Source.{Source}
 
 -- what contracts see of a scan: the next partition of each part, and the parts behind them
@@ -27,10 +27,12 @@ pub record ScanView : Type 0 where
 abbrev pub scan_of : List Head → List Source → ScanView
 scan_of heads sources = record { heads = heads; sources = sources }
 
--- the files of the scan are there, what is buffered of them is theirs, and it has no further maps
+-- the files of the scan are there, what is buffered of them is theirs, and it has no further maps; the next partition of each file is the one that
+-- was read last
 pub record CanScan (seen : Option Folder) (maps : List MemtableView) (scan : ScanView) : Type 0 where
   pub can : AllByRecursion (CanStep seen maps) scan.sources
   pub counted : length scan.heads ≡ length scan.sources
+  pub given : AreGiven scan.heads scan.sources
 
 -- in any file, it is a scan of these listed files, of a table with these types, and of these maps
 pub record IsScanOf (seen : Option Folder) (files : List ListedFile) (types : List ColumnType) (maps : List MemtableView) (scan : ScanView) : Type 0 where
@@ -40,7 +42,8 @@ pub record IsScanOf (seen : Option Folder) (files : List ListedFile) (types : Li
 
 -- ---- what is left
 
--- its files are the data files of contents, and of the merge these partitions are left
+-- its files are the data files of contents under the partitioner, which is that of its tokens, if they are taken from the keys; and of the merge
+-- these partitions are left
 pub record IsScanning (seen : Option Folder) (partitioner : Partitioner) (maps : List MemtableView) (scan : ScanView) (left : Entries) : Type 0 where
   pub each : List Entries
   pub each_is : AreLeft seen partitioner maps scan.heads scan.sources each

@@ -9,6 +9,7 @@ ghost use Rattle.sasi_host.specs.Names.{Bytes, data_name};
 ghost use Rattle.sasi_host.specs.View.{IsThere, ReadCost, contents_in};
 ghost use Rattle.sasi_datawrite.specs.Format.{Content};
 ghost use Rattle.sasi_dataread.specs.Damages.{ShowsDataFile};
+ghost use Rattle.sasi_dataread.specs.Tokens.{AgreesWith};
 ghost use Rattle.sasi_model.specs.Cells.{empty_partition};
 ghost use Rattle.sasi_manifest.specs.declared.files.ListedFile.{ListedFile as AListedFile};
 ghost use Rattle.sasi_merge.specs.Merging.{Head as AHead, head_with, merged_part};
@@ -29,30 +30,31 @@ use sasi_dataread::{DataFile, Walk};
 use sasi_host::{Direct, FileName, Host, ReadFault};
 use sasi_manifest::ListedFile;
 use sasi_merge::{Head, Heads, add_head, has_key};
-use sasi_types::{DecoratedKey, TypeList};
+use sasi_types::{DecoratedKey, Partitioner, TypeList};
 use std::alloc::{AllocError, Global};
 
-/// Opens the listed data files of a table with these types, and reads the head of each.
+/// Opens the listed data files of a table with these types, for a scan with these tokens, and reads the head of each.
 pub fn open_files<H: Host>(
     alloc: Global,
     host: &mut H,
     files: &[ListedFile],
     types: &TypeList,
+    tokens: Option<Partitioner>,
     heads: &mut Heads,
     sources: &mut Vec<Source>,
 ) -> Result<(), ReadFault>
     requires there { AllByRecursion (λ (f : AListedFile). IsThere (H.view host.old) (data_name f.number)) files.now }
     requires no_heads { heads.old ≡ [] }
     requires no_sources { sources.old.items ≡ [] }
-    ensures opened { OnOk result (AreOpened (H.view host.old).files types.now files.now heads.new sources.new.items) }
+    ensures opened { OnOk result (AreOpened (H.view host.old).files types.now tokens files.now heads.new sources.new.items) }
     ensures reads { (partitioner : Partitioner) (contents : List Content) → AreContents (H.view host.old).files partitioner types.now files.now contents → OpensWithin (H.view host.old).files partitioner (table_reads (H.view host.old).files files.now) [] sources.new.items (H.view host.old).reads (H.view host.new).reads result }
     ensures damaged { IfErr result (OnDamage (ShowsListed (H.view host.old).files files.now types.now)) }
-    ensures undamaged { IfErr result (OnDamage (λ _. (partitioner : Partitioner) (contents : List Content) → AreContents (H.view host.old).files partitioner types.now files.now contents → ⊥)) }
+    ensures undamaged { IfErr result (OnDamage (λ _. (partitioner : Partitioner) (contents : List Content) → AgreesWith tokens partitioner → AreContents (H.view host.old).files partitioner types.now files.now contents → ⊥)) }
     ensures changes { Changes Same (H.view host.old) (H.view host.new) }
     ensures causes { ScanCauses (H.view host.old) (H.view host.new) result }
 {
     for file in files {
-        open_source(alloc, host, file, types, heads, sources)?;
+        open_source(alloc, host, file, types, tokens, heads, sources)?;
     }
     Ok(())
 }
@@ -63,19 +65,20 @@ fn open_source<H: Host>(
     host: &mut H,
     file: &ListedFile,
     types: &TypeList,
+    tokens: Option<Partitioner>,
     heads: &mut Heads,
     sources: &mut Vec<Source>,
 ) -> Result<(), ReadFault>
     requires { IsThere (H.view host.old) (data_name file.now.number) }
-    ensures opened { OnOk result (IsAdded (IsOpened (H.view host.old).files types.now file.now) heads.old sources.old.items heads.new sources.new.items) }
+    ensures opened { OnOk result (IsAdded (IsOpened (H.view host.old).files types.now tokens file.now) heads.old sources.old.items heads.new sources.new.items) }
     ensures reads { (partitioner : Partitioner) (content : Content) → HasContent (H.view host.old).files partitioner types.now file.now content → AllByRecursion (IsPaged (H.view host.old).files partitioner) sources.old.items
         → OpensWithin (H.view host.old).files partitioner (3 + 2 * pages_in (H.view host.old).files (data_name file.now.number)) sources.old.items sources.new.items (H.view host.old).reads (H.view host.new).reads result }
     ensures damaged { IfErr result (OnDamage (λ damage. (bytes : Bytes) → contents_in (H.view host.old).files (data_name file.now.number) ≡ Some bytes → ShowsDataFile types.now (data_name file.now.number) bytes damage)) }
-    ensures undamaged { IfErr result (OnDamage (λ _. (partitioner : Partitioner) (content : Content) → HasContent (H.view host.old).files partitioner types.now file.now content → ⊥)) }
+    ensures undamaged { IfErr result (OnDamage (λ _. (partitioner : Partitioner) (content : Content) → AgreesWith tokens partitioner → HasContent (H.view host.old).files partitioner types.now file.now content → ⊥)) }
     ensures changes { Changes Same (H.view host.old) (H.view host.new) }
     ensures causes { ReadCost 2055 (H.view host.old) (H.view host.new) result }
 {
-    let mut scan = open_file(alloc, host, file, types)?;
+    let mut scan = open_file(alloc, host, file, types, tokens)?;
     let head = next_in_file(alloc, host, &mut scan)?;
     push(heads, sources, head, Source::File(scan))?;
     Ok(())
@@ -102,9 +105,10 @@ fn open_file<H: Host>(
     host: &mut H,
     file: &ListedFile,
     types: &TypeList,
+    tokens: Option<Partitioner>,
 ) -> Result<Walk, ReadFault>
     requires { IsThere (H.view host.old) (data_name file.now.number) }
-    ensures opened { IfOk result (IsOpenedFile (H.view host.old).files types.now file.now) }
+    ensures opened { IfOk result (IsOpenedFile (H.view host.old).files types.now tokens file.now) }
     ensures damaged { IfErr result (OnDamage (λ damage. (bytes : Bytes) → contents_in (H.view host.old).files (data_name file.now.number) ≡ Some bytes → ShowsDataFile types.now (data_name file.now.number) bytes damage)) }
     ensures undamaged { IfErr result (OnDamage (λ _. (partitioner : Partitioner) (content : Content) → HasContent (H.view host.old).files partitioner types.now file.now content → ⊥)) }
     ensures changes { Changes Same (H.view host.old) (H.view host.new) }
@@ -113,7 +117,7 @@ fn open_file<H: Host>(
     let name = FileName::data(file.number);
     let opened = DataFile::open(alloc, host, &mut Direct, name, types)?;
     let scan = opened.walk(alloc)?;
-    Ok(scan)
+    Ok(scan.with_tokens(tokens))
 }
 
 /// Adds maps in memory, with the head of each.

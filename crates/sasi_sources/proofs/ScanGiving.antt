@@ -115,6 +115,14 @@ module _ (types : List ColumnType) (files : List ListedFile) (maps : List Memtab
           omega (arith, has.reads, is.3),
         )
 
+    -- and where the whole merge is left, the next call finds no damage
+    pub begun_undamaged : ((p : Partitioner) (contents : List Content) → AreContents v.files p types files contents → IsScanning v.files p maps s (map_.entries (merged_parts p contents maps)))
+        → (f : ReadFault) → ((p : Partitioner) (left : Entries) → IsScanning u.files p maps s left → OnDamage (λ _. ⊥) f)
+        → OnDamage (λ _. (left : List Candidate) → ScanLeaves types files None v.files maps left → ⊥) f
+    begun_undamaged opened fault.Failed never = tt
+    begun_undamaged opened fault.OutOfMemory never = tt
+    begun_undamaged opened (fault.Damaged damage) never = λ left leaves. (let begun = begun_leaves opened left leaves in never begun.0 left begun.2)
+
     pub begun_ready : CanScan u.files maps s → ScanReady types files (Some s) u.files maps
     begun_ready can = (can, begun_of)
 

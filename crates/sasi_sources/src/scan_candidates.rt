@@ -169,7 +169,7 @@ fn begin<H: Host>(
     ensures changes { Changes Same (H.view host.old) (H.view host.new) }
     ensures causes { ScanCauses (H.view host.old) (H.view host.new) result }
 {
-    let mut scan = TableScan::open(alloc, host, files, types, maps)?;
+    let mut scan = TableScan::open(alloc, host, files, types, maps, None)?;
     let found = scan.next(alloc, host, maps)?;
     Ok((scan, found))
 }

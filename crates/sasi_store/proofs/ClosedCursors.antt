@@ -1,15 +1,18 @@
--- A cursor that is closed: its view is given back, and the others stay.
+-- A cursor that is closed: its view is given back, the files are deleted that nothing else needs, and the others stay.
 use Rattle.std.proofs.Common.{◌≡◌, ◌≤◌, ◌<◌, ◌++◌, ◌||◌, ℕ, Bool, true, false, cond, not, filter, length, List, [], ◌∷◌, map, slice_get, Option, Some, refl, sym, ap, subst, ◌∙◌, arith}
 use Rattle.std.specs.Prelude.{Contains, ⊤}
+use Rattle.std.specs.Global.{Vec}
 use Rattle.std.specs.FinMap.{get}
 use Rattle.std.specs.List.{AllByRecursion, IsDistinct}
 use Rattle.std.specs.Cmp.Lexicographic.{bytes_decides}
 use Rattle.std.specs.Map.{keys_of}
 use Rattle.sasi_host.specs.declared.name.FileName.{FileName}
+use Rattle.sasi_host.specs.Disk.{Changes, Within}
 use Rattle.sasi_host.specs.Names.{Folder}
 use Rattle.sasi_host.specs.View.{View}
 use Rattle.sasi_layout.specs.Serving.{Serves, StoreInMemory}
 use Rattle.sasi_layout.specs.Classes.{KnowsClasses}
+use Rattle.sasi_manifest.specs.Edits.{files_of}
 use Rattle.sasi_memindex.specs.Book.{Book as MapBook}
 use Rattle.sasi_model.specs.Sessions as model
 use Rattle.sasi_machine.proofs.CursorTurns.{closed_agrees}
@@ -25,6 +28,7 @@ use Rattle.sasi_views.specs.Books.{count_of}
 use Rattle.sasi_views.specs.Changes.{AreCounted, Given}
 use Rattle.sasi_views.specs.Kept.{IsCounted, listed_by}
 use Rattle.sasi_views.specs.Parts.{components_of}
+use Rattle.sasi_views.specs.declared.component.Component.{Component}
 use Rattle.sasi_views.specs.declared.component.Component.TheVariants as component
 use Rattle.sasi_views.specs.declared.part.Part.{Part}
 use Rattle.sasi_engine.specs.Plans.{map_numbers}
@@ -34,12 +38,17 @@ use Rattle.sasi_tables.specs.Held.{AreForgottenBut, HasIndexes, HeldTable, in_me
 use Rattle.sasi_tables.specs.TablesView.{AreTables, IsOfParts, held_in, memory_of}
 use Rattle.sasi_tables.specs.declared.parts.Parts.{Parts}
 use Rattle.sasi_tables.specs.declared.table_maps.TableMaps.{TableMaps}
+use Rattle.sasi_tasks.specs.MakesTaskMoves.{CanGoOn}
+use Rattle.sasi_tasks.specs.Running.{AreTasksOf, KnowsTasks}
+use Rattle.sasi_tasks.specs.Unheld.{AreGone, is_left, is_one_of}
+use Rattle.sasi_tasks.specs.declared.running.RunningTask.{RunningTask}
 use Rattle.sasi_store.specs.CursorCalls.{IsClosed}
 use Rattle.sasi_store.specs.Cursors.{AreCursors, GivesRows, HasNamesOf, IsKept, Opened, view_names, views_out, views_told}
 use Rattle.sasi_store.specs.declared.session_state.OpenCursor.{OpenCursor}
 use Rattle.sasi_store.specs.declared.session_state.SessionState.{SessionState}
-use Rattle.sasi_store.proofs.FetchedCursors.{one_found}
-use Rattle.sasi_store.proofs.KeptCursors.{KeepsViews, all_kept, all_still}
+use Rattle.sasi_store.proofs.FetchedCursors.{found_all, one_found}
+use Rattle.sasi_store.proofs.GivenBack.{goes_on_given, held_change, serves_given, tasks_given}
+use Rattle.sasi_store.proofs.KeptCursors.{KeepsViews, all_kept, all_still, keeps_changed}
 
 module _ (name : List ℕ) where
   -- ---- lists
@@ -140,11 +149,21 @@ module _ (name : List ℕ) where
 
 -- ---- what is left
 
-module _ (v : View) (name : List ℕ) (old : Parts) (book : MapBook) (numbers : List ℕ) (was now : SessionState) (c : OpenCursor) (of : IsOfParts old) (once : IsOnce was.cursors) (is : Some c ≡ cursor_of name was.cursors)
-    (given : Given was.views now.views (components_of (view_of c.rows))) (cursors_are : now.cursors ≡ without name was.cursors) (trace_is : now.trace ≡ was.trace)
-    (forgot : AreForgottenBut old.tables.items now.views numbers old.maps book) (numbers_are : numbers ≡ map_numbers (view_of c.rows)) where
+module _ (a b : View) (name : List ℕ) (old : Parts) (book : MapBook) (numbers : List ℕ) (was now : SessionState) (c : OpenCursor) (on : CanGoOn a was.views old was.tasks.items) (are : AreCursors a.files old was) (once : IsOnce was.cursors)
+    (is : Some c ≡ cursor_of name was.cursors) (given : Given was.views now.views (components_of (view_of c.rows))) (cursors_are : now.cursors ≡ without name was.cursors) (trace_is : now.trace ≡ was.trace) (tasks_is : now.tasks ≡ was.tasks)
+    (forgot : AreForgottenBut old.tables.items now.views numbers old.maps book) (numbers_are : numbers ≡ map_numbers (view_of c.rows))
+    (change : Changes (Within (is_one_of (is_left was.views (files_of old.manifest.listing.tables c.table)) (view_names (view_of c.rows)))) a b)
+    (gone : AreGone (is_left was.views (files_of old.manifest.listing.tables c.table)) b (view_names (view_of c.rows))) where
   abbrev new : Parts
   new = record old { maps = book }
+
+  abbrev tasks : List RunningTask
+  tasks = was.tasks.items
+
+  found : IsKept a.files old c
+  found = found_all name c (IsKept a.files old) was.cursors are.kept is
+
+  -- ---- the maps
 
   -- the maps of tables stay
   own : (i : ℕ) (x : TableMaps) (n : ℕ) → slice_get old.tables.items i ≡ Some x → Contains (numbers_of x) n → get book n ≡ get old.maps n
@@ -158,68 +177,69 @@ module _ (v : View) (name : List ℕ) (old : Parts) (book : MapBook) (numbers : 
 
   parts_are : IsOfParts new
   parts_are = record {
-    tables = subst (AreTables old.manifest.listing.partitioner) (sym held_are) of.tables;
+    tables = subst (AreTables old.manifest.listing.partitioner) (sym held_are) on.parts.tables;
     mapped = record {
-      counted = of.mapped.counted;
-      apart = of.mapped.apart;
-      rising = of.mapped.rising;
-      used = of.mapped.used;
-      indexed = λ i x subjects n there wanted has. subst (HasIndexes subjects) (sym (own i x n there has)) (of.mapped.indexed i x subjects n there wanted has);
+      counted = on.parts.mapped.counted;
+      apart = on.parts.mapped.apart;
+      rising = on.parts.mapped.rising;
+      used = on.parts.mapped.used;
+      indexed = λ i x subjects n there wanted has. subst (HasIndexes subjects) (sym (own i x n there has)) (on.parts.mapped.indexed i x subjects n there wanted has);
     };
-    regular = of.regular;
+    regular = on.parts.regular;
   }
 
-  keeps : (files : Option Folder) → KeepsViews files files now.views old new
-  keeps files = record {
-    told = λ some. some;
-    files = λ n is. refl;
-    listed = λ table f is. is;
-    types = λ at t there. (t, there, refl);
-    maps = record {
-      stay = λ n aside some. subst (IsGrown (get old.maps n)) (sym (forgot.listed n some)) (grown_not (get old.maps n));
-      aside = λ n is. record { numbered = is.numbered; apart = is.apart };
-    };
-  }
+  goes_on : CanGoOn b now.views new tasks
+  goes_on = goes_on_given a b old tasks was.views now.views c.table found.row found.there (view_of c.rows) on given found.once found.parts change gone new refl refl memory_is parts_are
+
+  -- ---- the cursors
+
+  keeps : KeepsViews a.files b.files now.views old new
+  keeps = keeps_changed a b now.views old new (held_change a b old tasks was.views now.views c.table found.row found.there (view_of c.rows) on given found.once found.parts change) (λ table f held place. place) (omega arith) (λ at t there. (t, there, refl)) (record {
+    stay = λ n aside some. subst (IsGrown (get old.maps n)) (sym (forgot.listed n some)) (grown_not (get old.maps n));
+    aside = λ n is. record { numbered = is.numbered; apart = is.apart };
+  })
 
   abbrev others : Opened
   others = without name was.cursors
 
-  counted : (files : Option Folder) → AreCursors files old was → IsCounted now.views (views_out others)
-  counted files are =
+  counted : IsCounted now.views (views_out others)
+  counted =
       let split = between name c was.cursors is in
       subst (IsCounted now.views) (sym split.rest_are) (give_counted was.views now.views split.before split.after (view_of c.rows) given (subst (IsCounted was.views) split.all_are are.counted))
 
-  out : (files : Option Folder) → AreCursors files old was → (n : ℕ) → 0 < listed_by (component.Map n) (views_out others) → 0 < count_of now.views (component.Map n)
-  out files are n some = omega (arith, some, (counted files are).counts (component.Map n))
+  out : (k : Component) → 0 < listed_by k (views_out others) → 0 < count_of now.views k
+  out k some = omega (arith, some, counted.counts k)
 
-  others_kept : (files : Option Folder) → AreCursors files old was → AllByRecursion (λ (e : List ℕ × OpenCursor). IsKept files old e.1) others
-  others_kept files are = all_without name (λ (e : List ℕ × OpenCursor). IsKept files old e.1) was.cursors are.kept
+  others_kept : AllByRecursion (λ (e : List ℕ × OpenCursor). IsKept a.files old e.1) others
+  others_kept = all_without name (λ (e : List ℕ × OpenCursor). IsKept a.files old e.1) was.cursors are.kept
 
-  kept : AreCursors v.files old was → AreCursors v.files new now
-  kept are = record {
-    counted = subst (λ (es : Opened). IsCounted now.views (views_out es)) (sym cursors_are) (counted v.files are);
-    kept = subst (AllByRecursion (λ (e : List ℕ × OpenCursor). IsKept v.files new e.1)) (sym cursors_are) (all_kept v.files v.files now.views old new (keeps v.files) others (out v.files are) (others_kept v.files are));
+  kept : AreCursors b.files new now
+  kept = record {
+    counted = subst (λ (es : Opened). IsCounted now.views (views_out es)) (sym cursors_are) counted;
+    kept = subst (AllByRecursion (λ (e : List ℕ × OpenCursor). IsKept b.files new e.1)) (sym cursors_are) (all_kept a.files b.files now.views old new keeps others out others_kept);
     few = omega (arith, ap (λ (es : Opened). length es) cursors_are, without_fewer name was.cursors, are.few);
   }
 
   -- **The others are the session's, without the one of the name.**
-  pub closed : IsClosed v name old new was now
+  pub closed : IsClosed a b name old new was now
   closed = record {
-    serves = λ w are serves. record {
-      serves = subst (λ (m : StoreInMemory). Serves v m w.layout) (sym memory_is) serves.serves;
+    serves = λ w serves. record {
+      serves = subst (λ (m : StoreInMemory). Serves b m w.layout) (sym memory_is) (serves_given a b old tasks was.views now.views c.table found.row found.there (view_of c.rows) on given found.once found.parts change w.layout serves.serves);
       trace_is = trace_is ∙ serves.trace_is;
-      cursors_are = subst (λ (es : Opened). Agrees (λ (x : model.Cursor). x.name) (GivesRows v.files book) es (model.without_cursor name w.session.cursors)) (sym cursors_are)
-          (all_still v.files v.files now.views old new (keeps v.files) others (model.without_cursor name w.session.cursors) (out v.files are) (others_kept v.files are)
-          (closed_agrees (GivesRows v.files old.maps) was.cursors w.session serves.cursors_are name once));
+      cursors_are = subst (λ (es : Opened). Agrees (λ (x : model.Cursor). x.name) (GivesRows b.files book) es (model.without_cursor name w.session.cursors)) (sym cursors_are)
+          (all_still a.files b.files now.views old new keeps others (model.without_cursor name w.session.cursors) out others_kept
+          (closed_agrees (GivesRows a.files old.maps) was.cursors w.session serves.cursors_are name once));
       views_are = ap (others_told name) serves.views_are ∙ told_without name was.cursors once ∙ ap views_told (sym cursors_are);
+      tasks_are = subst (λ (ts : Vec RunningTask). AreTasksOf b w.layout ts.items w.tasks) (sym tasks_is) (tasks_given a b old tasks was.views now.views c.table found.row found.there (view_of c.rows) on given found.once found.parts change w.layout w.tasks serves.tasks_are);
     };
     memory = memory_is;
-    parts = parts_are;
+    ready = subst (λ (ts : Vec RunningTask). CanGoOn b now.views new ts.items) (sym tasks_is) goes_on;
     cursors = kept;
     classes = λ kinds knows. record {
       tables = subst (KnowsClasses kinds) (sym memory_is) knows.tables;
       cursors = subst (AllByRecursion (λ (e : List ℕ × OpenCursor). KnowsWhere kinds e.1.rows.reader.rows.filter)) (sym cursors_are)
           (all_without name (λ (e : List ℕ × OpenCursor). KnowsWhere kinds e.1.rows.reader.rows.filter) was.cursors knows.cursors);
+      tasks = subst (λ (ts : Vec RunningTask). KnowsTasks kinds ts.items) (sym tasks_is) knows.tasks;
     };
     names = λ x named. subst (λ (es : Opened). HasNamesOf es (record x { cursors = model.without_cursor name x.cursors })) (sym cursors_are) (names_without name was.cursors x once named);
     forgotten = λ d found.

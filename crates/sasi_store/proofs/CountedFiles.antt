@@ -9,7 +9,6 @@ use Rattle.sasi_layout.proofs.FileNameLaws.{name_itself, name_same}
 use Rattle.sasi_manifest.specs.ListedFiles.{index_name}
 use Rattle.sasi_manifest.specs.declared.files.PartNumber.{PartNumber}
 use Rattle.sasi_print.specs.Files.{file_text}
-use Rattle.sasi_print.specs.declared.file_lines.FileState.TheVariants.{Current}
 use Rattle.sasi_views.specs.Books.{count_of}
 use Rattle.sasi_views.specs.Components.{among, lists, same}
 use Rattle.sasi_views.specs.Kept.{listed_by}
@@ -21,8 +20,10 @@ use Rattle.sasi_views.specs.declared.part.Part.TheVariants.{File, Map}
 use Rattle.sasi_engine.specs.Plans.{names_of}
 use Rattle.sasi_fetch.specs.Cursors.{view_of}
 use Rattle.sasi_tables.specs.declared.parts.Parts.{Parts}
-use Rattle.sasi_store.specs.Cursors.{AreCursors, IsKept, Opened, counted_texts, view_names, views_out, views_told}
-use Rattle.sasi_store.specs.Worlds.{current_texts, pinned}
+use Rattle.sasi_store.specs.Cursors.{AreCursors, IsKept, Opened, view_names, views_out, views_told}
+use Rattle.sasi_store.specs.ToldFiles.{counted_texts}
+use Rattle.sasi_store.specs.Worlds.{pinned}
+use Rattle.sasi_store.specs.declared.show_files.ToldFile.{ToldFile}
 use Rattle.sasi_store.specs.declared.session_state.OpenCursor.{OpenCursor}
 use Rattle.sasi_store.specs.declared.session_state.SessionState.{SessionState}
 
@@ -42,7 +43,7 @@ module _ (name : FileName) where
   abbrev file : Component
   file = component.File name
 
-  same_file : (a : FileName) → same (component.File a) file ≡ name_eq name a
+  pub same_file : (a : FileName) → same (component.File a) file ≡ name_eq name a
   same_file a = by (same (component.File a) file) (name_eq name a) refl refl
     where
       by : (x y : Bool) → same (component.File a) file ≡ x → name_eq name a ≡ y → x ≡ y
@@ -66,6 +67,19 @@ module _ (name : FileName) where
   view_among (part ∷ parts) =
       list_any-append (λ (x : Component). same x file) (part_components part) (components_of parts)
       ∙ ap₂ (λ (a b : Bool). a || b) (part_among part) (view_among parts) ∙ sym (list_any-append (name_eq name) (names_of part) (view_names parts))
+
+  -- what isn't among them isn't listed,
+  not_listed : (xs : List Component) → among file xs ≡ false → lists file xs ≡ 0
+  not_listed [] none = refl
+  not_listed (x ∷ xs) none = by (same x file) none (not_listed xs)
+    where
+      by : (b : Bool) → (b || among file xs) ≡ false → (among file xs ≡ false → lists file xs ≡ 0) → one_if b + lists file xs ≡ 0
+      by true none rest = cc
+      by false none rest = omega (arith, rest none)
+
+  -- so a view lists only its own files,
+  pub view_lists : (parts : List Part) → list_any (name_eq name) (view_names parts) ≡ false → lists file (components_of parts) ≡ 0
+  view_lists parts none = not_listed (components_of parts) (view_among parts ∙ none)
 
   -- those of the cursors that hold it
   abbrev held : Opened → List (List ℕ × List FileName)
@@ -92,6 +106,6 @@ module _ (files : Option Folder) (p : Parts) (session : SessionState) (are : Are
   file_pinned name = are.counted.counts (component.File name) ∙ cursors_pinned name session.cursors (all_once files p session.cursors are.kept)
 
   -- **So is what SHOW FILES tells of it.**
-  pub texts_pinned : (names : List FileName) → counted_texts session.views names ≡ current_texts (views_told session.cursors) names
+  pub texts_pinned : (files : List ToldFile) → counted_texts session.views files ≡ map (λ (f : ToldFile). file_text f.name f.state (pinned f.name (views_told session.cursors))) files
   texts_pinned [] = refl
-  texts_pinned (name ∷ names) = ap₂ (λ (n : ℕ) (texts : List (List ℕ)). file_text name Current n ∷ texts) (file_pinned name) (texts_pinned names)
+  texts_pinned (f ∷ fs) = ap₂ (λ (n : ℕ) (texts : List (List ℕ)). file_text f.name f.state n ∷ texts) (file_pinned f.name) (texts_pinned fs)

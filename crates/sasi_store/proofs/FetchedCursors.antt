@@ -29,11 +29,12 @@ use Rattle.sasi_fetch.specs.Printing.{PrintsAtMost, PrintsFirst, row_picked}
 use Rattle.sasi_fetch.specs.declared.cursor.Cursor.{Cursor}
 use Rattle.sasi_tables.specs.TablesView.{memory_of}
 use Rattle.sasi_tables.specs.declared.parts.Parts.{Parts}
+use Rattle.sasi_tasks.specs.MakesTaskMoves.{CanGoOn}
 use Rattle.sasi_store.specs.CursorCalls.{IsFetched}
 use Rattle.sasi_store.specs.Cursors.{AreCursors, GivesRows, IsKept, IsKeptPart, Opened, view_names}
 use Rattle.sasi_store.specs.declared.session_state.OpenCursor.{OpenCursor}
 use Rattle.sasi_store.specs.declared.session_state.SessionState.{SessionState}
-use Rattle.sasi_store.proofs.SameFiles.{files_same, serves_same}
+use Rattle.sasi_store.proofs.SameFiles.{files_same, serves_same, goes_on_same, tasks_same}
 
 -- a name under which a cursor was looked for is open where one was found
 found_open : (name : List ℕ) (es : Opened) (found : Option OpenCursor) → found ≡ cursor_of name es → is_open name es ≡ is_some found
@@ -88,7 +89,7 @@ module _ (name : List ℕ) (c : OpenCursor) where
         by true rest = refl
         by false rest = omega (arith, rest)
 
-module _ (kinds : List Class) (a b : View) (change : Changes Same a b) (asked : FetchAsked) (p : Parts) (was : SessionState) (c : OpenCursor) (rows : Cursor) (are : AreCursors a.files p was) (once : IsOnce was.cursors)
+module _ (kinds : List Class) (a b : View) (change : Changes Same a b) (asked : FetchAsked) (p : Parts) (was : SessionState) (c : OpenCursor) (rows : Cursor) (on : CanGoOn a was.views p was.tasks.items) (are : AreCursors a.files p was) (once : IsOnce was.cursors)
     (is : Some c ≡ cursor_of asked.cursor was.cursors) (view_is : view_of rows ≡ view_of c.rows) (filter_is : rows.reader.rows.filter ≡ c.rows.reader.rows.filter) (picked_is : rows.reader.picked ≡ c.rows.reader.picked)
     (readable : (types : List ColumnType) → IsReadable types a.files p.maps c.rows → IsReadable types b.files p.maps rows) (reply_old reply_new : List ℕ)
     (prints : PrintsFirst c.rows.reader.picked asked.count (RowsLeft source.leaves-value.it c.rows.reader.rows a.files p.maps) (RowsLeft source.leaves-value.it rows.reader.rows b.files p.maps) reply_old reply_new)
@@ -138,6 +139,7 @@ module _ (kinds : List Class) (a b : View) (change : Changes Same a b) (asked : 
       trace_is = serves.trace_is;
       cursors_are = subst (λ (o : Option Folder). Agrees (λ (x : model.Cursor). x.name) (GivesRows o p.maps) now.cursors (model.rows_given asked.cursor asked.count w.session.cursors)) (sym files_are)
           (fetched_agrees (GivesRows a.files p.maps) was.cursors w.session serves.cursors_are asked.cursor asked.count c new once is moved);
+      tasks_are = tasks_same a b change p w.layout was.tasks.items w.tasks on.ready.each serves.tasks_are;
       views_are = serves.views_are ∙ sym (map_with asked.cursor c new (λ (e : List ℕ × OpenCursor). (e.0, view_names (view_of e.1.rows))) (λ n. ap (λ (ps : List Part). (n, view_names ps)) view_is) was.cursors is);
     };
     reply_is = λ w serves.
@@ -145,9 +147,11 @@ module _ (kinds : List Class) (a b : View) (change : Changes Same a b) (asked : 
         (prints d.2.0 d.2.1).0
         ∙ ap (λ (rs : model.Rows). reply_old ++ rows_lines rs)
         (sym (ap (λ (found : Option model.Cursor). take asked.count (option_map_or (λ (x : model.Cursor). x.rows) found [])) d.1 ∙ ap (take asked.count) d.2.2 ∙ take-map (row_picked c.rows.reader.picked) asked.count d.2.0));
+    ready = goes_on_same a b change p was.views was.tasks.items on;
     cursors = kept;
     classes = λ knows. record {
       tables = knows.tables;
+      tasks = knows.tasks;
       cursors = all_with asked.cursor c new (λ (e : List ℕ × OpenCursor). KnowsWhere kinds e.1.rows.reader.rows.filter)
           (λ n. subst (KnowsWhere kinds) (sym filter_is) (found_all asked.cursor c (λ (d : OpenCursor). KnowsWhere kinds d.rows.reader.rows.filter) was.cursors knows.cursors is)) was.cursors knows.cursors;
     };

@@ -1,15 +1,14 @@
--- A step that leaves the listed files, the maps that views list and the types of columns leaves the open cursors: each can be read on, and has the same rows left.
-use Rattle.std.proofs.Common.{◌≡◌, ◌<◌, ◌≤◌, ◌-◌, ℕ, Bool, true, if◌then◌else◌, List, [], ◌∷◌, length, slice_get, Option, Some, IsSome, inl, inr, refl, sym, ap, subst, arith}
+-- A step that leaves the files and the maps that views list, and the types of columns, leaves the open cursors: each can be read on, and has the same rows left.
+use Rattle.std.proofs.Common.{◌≡◌, ◌<◌, ◌≤◌, ◌-◌, ◌||◌, ℕ, Bool, true, false, if◌then◌else◌, List, [], ◌∷◌, length, map, slice_get, Option, Some, IsSome, inl, inr, refl, sym, ap, subst, arith}
 use Rattle.std.proofs.lemmas.List.{length-map}
-use Rattle.std.specs.List.{AllByRecursion}
+use Rattle.std.specs.List.{AllByRecursion, list_any}
 use Rattle.std.specs.Cmp.{eq_by_cmp_equiv}
-use Rattle.sasi_folder.specs.Damages.{IsListedName}
 use Rattle.sasi_host.proofs.ContentLaws.{contents_kept, told_before}
 use Rattle.sasi_host.specs.declared.name.FileName.{FileName}
 use Rattle.sasi_host.specs.Disk.{Changes, Same}
-use Rattle.sasi_host.specs.Names.{Folder}
+use Rattle.sasi_host.specs.Names.{Folder, data_name, name_eq}
 use Rattle.sasi_host.specs.View.{View, contents_in}
-use Rattle.sasi_manifest.specs.Edits.{files_of}
+use Rattle.sasi_manifest.specs.ListedFiles.{index_name}
 use Rattle.sasi_manifest.specs.ListedDefinition.{ListedDefinition}
 use Rattle.sasi_manifest.specs.declared.listing.Listing.{Listing}
 use Rattle.sasi_model.specs.Abbreviations.{types_of}
@@ -25,6 +24,7 @@ use Rattle.sasi_views.specs.ComponentLaws.{components_total}
 use Rattle.sasi_views.specs.Components.{lists, same}
 use Rattle.sasi_views.specs.Kept.{IsCounted, listed_by}
 use Rattle.sasi_views.specs.Parts.{components_of, part_components}
+use Rattle.sasi_views.specs.declared.component.Component.{Component}
 use Rattle.sasi_views.specs.declared.component.Component.TheVariants as component
 use Rattle.sasi_views.specs.declared.part.Part.{Part}
 use Rattle.sasi_views.specs.declared.part.Part.TheVariants.{File, Map}
@@ -32,31 +32,26 @@ use Rattle.sasi_cursors.specs.Agreement.{Agrees}
 use Rattle.sasi_engine.specs.Plans.{map_numbers}
 use Rattle.sasi_fetch.proofs.CursorLaws.{StaysInView, still_left, still_readable}
 use Rattle.sasi_fetch.specs.Cursors.{IsReadable, view_of}
-use Rattle.sasi_tables.proofs.ListedFrames.{same_stays}
-use Rattle.sasi_tables.specs.Frames.{KeepsFilesOf, KeepsListed}
 use Rattle.sasi_tables.specs.Pinned.{IsAside, KeepsPinned}
 use Rattle.sasi_tables.specs.declared.parts.Parts.{Parts}
 use Rattle.sasi_store.specs.Cursors.{AreCursors, AreCursorsOf, GivesRows, HasFewOut, IsKept, IsKeptPart, Opened, views_out}
 use Rattle.sasi_store.specs.declared.session_state.OpenCursor.{OpenCursor}
 use Rattle.sasi_store.specs.declared.session_state.SessionState.{SessionState}
-use Rattle.sasi_store.proofs.ListedViews.{IsOfFiles, parts_listed}
+use Rattle.sasi_store.proofs.HeldFiles.{file_lists, held_some}
+use Rattle.sasi_store.proofs.SameFiles.{same_held}
 use Rattle.sasi_store.proofs.ViewFiles.{lists_both}
+use Rattle.sasi_tasks.specs.MakesTaskMoves.{KeepsHeld}
+use Rattle.sasi_tasks.specs.Running.{KeepsPlaces, is_held}
+use Rattle.sasi_layout.proofs.FileNameLaws.{name_itself}
 
 -- ---- the parts of a cursor's view
 
-module _ (p : Parts) (table : ℕ) where
-  -- its files are listed,
-  pub files_kept : (parts : List Part) → AllByRecursion (IsKeptPart p table) parts → AllByRecursion (IsOfFiles (files_of p.manifest.listing.tables table)) parts
-  files_kept [] all = tt
-  files_kept (File number indexes ∷ parts) all = (all.0, files_kept parts all.1)
-  files_kept (Map n ∷ parts) all = (tt, files_kept parts all.1)
-
-  -- and its maps were frozen
-  parts_aside : (n : ℕ) (parts : List Part) → AllByRecursion (IsKeptPart p table) parts → IsOneOf (map_numbers parts) n → IsAside p n
-  parts_aside n [] all has = absurd has
-  parts_aside n (File number indexes ∷ parts) all has = parts_aside n parts all.1 has
-  parts_aside n (Map m ∷ parts) all (inl is) = subst (IsAside p) (sym is) all.0
-  parts_aside n (Map m ∷ parts) all (inr later) = parts_aside n parts all.1 later
+-- its maps were frozen
+parts_aside : (p : Parts) (table n : ℕ) (parts : List Part) → AllByRecursion (IsKeptPart p table) parts → IsOneOf (map_numbers parts) n → IsAside p n
+parts_aside p table n [] all has = absurd has
+parts_aside p table n (File number indexes ∷ parts) all has = parts_aside p table n parts all.1 has
+parts_aside p table n (Map m ∷ parts) all (inl is) = subst (IsAside p) (sym is) all.0
+parts_aside p table n (Map m ∷ parts) all (inr later) = parts_aside p table n parts all.1 later
 
 abbrev one_if : Bool → ℕ
 one_if b = if b then 1 else 0
@@ -92,21 +87,24 @@ few_out files p session are = (views_out session.cursors, are.counted, omega (ar
 abbrev pub KeepsTypes : Listing → Listing → Type 0
 KeepsTypes old new = (at : ℕ) (t : ListedDefinition) → slice_get old.tables at ≡ Some t → (u : ListedDefinition) × (slice_get new.tables at ≡ Some u) × (types_of u.definition ≡ types_of t.definition)
 
--- The files that are listed read as before, and stay listed; the maps that views list stay, but for indexes that are added, and so do the types of columns.
+-- The files that views list which are out read as before, and each is listed still or listed no more; the maps that views list stay, but for indexes that are added, and so
+-- do the types of columns.
 pub record KeepsViews (was now : Option Folder) (views : Book) (old new : Parts) : Type 0 where
   pub told : IsSome now → IsSome was
-  pub files : (name : FileName) → IsListedName old.manifest.listing.tables name → contents_in now name ≡ contents_in was name
-  pub listed : KeepsFilesOf old.manifest.listing new.manifest.listing
+  pub files : (name : FileName) → is_held views name ≡ true → contents_in now name ≡ contents_in was name
+  pub places : KeepsPlaces views old.manifest.listing new.manifest.listing
+  pub numbers : old.numbers.«data» ≤ new.numbers.«data»
   pub types : KeepsTypes old.manifest.listing new.manifest.listing
   pub maps : KeepsPinned views old new
 
--- **So it is after changes that leave the listed files,**
-pub keeps_changed : (a b : View) (views : Book) (old new : Parts) → Changes (KeepsListed old.manifest.listing) a b → KeepsFilesOf old.manifest.listing new.manifest.listing → KeepsTypes old.manifest.listing new.manifest.listing → KeepsPinned views old new
+-- **So it is after changes that leave the files that views list,**
+pub keeps_changed : (a b : View) (views : Book) (old new : Parts) → Changes (KeepsHeld views) a b → KeepsPlaces views old.manifest.listing new.manifest.listing → old.numbers.«data» ≤ new.numbers.«data» → KeepsTypes old.manifest.listing new.manifest.listing → KeepsPinned views old new
     → KeepsViews a.files b.files views old new
-keeps_changed a b views old new changes listed types maps = record {
-  told = told_before (KeepsListed old.manifest.listing) a b changes;
-  files = λ name is. contents_kept a b (KeepsListed old.manifest.listing) name (λ x y kept. kept name is) changes;
-  listed = listed;
+keeps_changed a b views old new changes places numbers types maps = record {
+  told = told_before (KeepsHeld views) a b changes;
+  files = λ name held. contents_kept a b (KeepsHeld views) name (λ x y kept. kept name held) changes;
+  places = places;
+  numbers = numbers;
   types = types;
   maps = maps;
 }
@@ -114,21 +112,40 @@ keeps_changed a b views old new changes listed types maps = record {
 -- **and where tables and files stay.**
 pub keeps_same : (a b : View) (views : Book) (p : Parts) → Changes Same a b → KeepsViews a.files b.files views p p
 keeps_same a b views p changes =
-    keeps_changed a b views p p (same_stays p.manifest.listing a b changes) (λ table f is. is) (λ at t there. (t, there, refl)) (record { stay = λ n aside some. grown_not (get p.maps n); aside = λ n is. is })
+    keeps_changed a b views p p (same_held a b changes views) (λ table f held place. place) (omega arith) (λ at t there. (t, there, refl)) (record { stay = λ n aside some. grown_not (get p.maps n); aside = λ n is. is })
+
+-- each component of these is counted
+abbrev pub AreCounted : Book → List Part → Type 0
+AreCounted views parts = (c : Component) → 0 < lists c (components_of parts) → 0 < count_of views c
 
 module _ (was now : Option Folder) (views : Book) (old new : Parts) (keeps : KeepsViews was now views old new) where
-  module _ (c : OpenCursor) (is : IsKept was old c) (out : (n : ℕ) → IsOneOf (map_numbers (view_of c.rows)) n → 0 < count_of views (component.Map n)) where
+  -- a part of a view is kept whose data file is held
+  part_kept : (table : ℕ) (part : Part) → AreCounted views (part ∷ []) → IsKeptPart old table part → IsKeptPart new table part
+  part_kept table (File number indexes) out kept =
+      let once : 0 < lists (component.File (data_name number)) (components_of (File number indexes ∷ [])) = file_lists (data_name number) (File number indexes ∷ []) (data_own number (list_any (name_eq (data_name number)) (map (index_name number) indexes))) in
+      (omega (arith, kept.0, keeps.numbers), keeps.places table (record { number = number; parts = indexes }) (held_some views (data_name number) (out (component.File (data_name number)) once)) kept.1)
+    where
+      data_own : (n : ℕ) (more : Bool) → ((name_eq (data_name n) (data_name n) || more) || false) ≡ true
+      data_own n more = ap (λ (b : Bool). (b || more) || false) (name_itself (data_name n))
+  part_kept table (Map n) out kept = keeps.maps.aside n kept
+
+  first_counted : (part : Part) (parts : List Part) → AreCounted views (part ∷ parts) → AreCounted views (part ∷ [])
+  first_counted part parts out c some = out c (omega (arith, some, lists_both c (part_components part) (components_of parts), lists_both c (part_components part) []))
+
+  others_counted : (part : Part) (parts : List Part) → AreCounted views (part ∷ parts) → AreCounted views parts
+  others_counted part parts out c some = out c (omega (arith, some, lists_both c (part_components part) (components_of parts)))
+
+  parts_kept : (table : ℕ) (parts : List Part) → AreCounted views parts → AllByRecursion (IsKeptPart old table) parts → AllByRecursion (IsKeptPart new table) parts
+  parts_kept table [] out all = tt
+  parts_kept table (part ∷ parts) out all = (part_kept table part (first_counted part parts out) all.0, parts_kept table parts (others_counted part parts out) all.1)
+
+  module _ (c : OpenCursor) (is : IsKept was old c) (out : AreCounted views (view_of c.rows)) where
     stays : StaysInView c.rows was now old.maps new.maps
     stays = record {
       told = keeps.told;
-      files = λ name is_file. keeps.files name (parts_listed old c.table (view_of c.rows) (files_kept old c.table (view_of c.rows) is.parts) name is_file);
-      maps = λ n has. keeps.maps.stay n (parts_aside old c.table n (view_of c.rows) is.parts has) (out n has);
+      files = λ name is_file. keeps.files name (held_some views name (out (component.File name) (file_lists name (view_of c.rows) is_file)));
+      maps = λ n has. keeps.maps.stay n (parts_aside old c.table n (view_of c.rows) is.parts has) (out (component.Map n) (parts_list n (view_of c.rows) has));
     }
-
-    parts_kept : (parts : List Part) → AllByRecursion (IsKeptPart old c.table) parts → AllByRecursion (IsKeptPart new c.table) parts
-    parts_kept [] all = tt
-    parts_kept (File number indexes ∷ parts) all = (keeps.listed c.table (record { number = number; parts = indexes }) all.0, parts_kept parts all.1)
-    parts_kept (Map n ∷ parts) all = (keeps.maps.aside n all.0, parts_kept parts all.1)
 
     -- the cursor can be read on
     cursor_kept : IsKept now new c
@@ -139,7 +156,7 @@ module _ (was now : Option Folder) (views : Book) (old new : Parts) (keeps : Kee
           row = u.0;
           there = u.1;
           readable = subst (λ (types : List ColumnType). IsReadable types now new.maps c.rows) (sym u.2) (still_readable (types_of is.row.definition) was now old.maps new.maps c.rows is.readable stays);
-          parts = parts_kept (view_of c.rows) is.parts;
+          parts = parts_kept c.table (view_of c.rows) out is.parts;
           once = is.once;
         }
 
@@ -147,15 +164,15 @@ module _ (was now : Option Folder) (views : Book) (old new : Parts) (keeps : Kee
     cursor_still : (x : model.Cursor) → GivesRows was old.maps c x → GivesRows now new.maps c x
     cursor_still x gives = (gives.0, still_left (types_of is.row.definition) was now old.maps new.maps c.rows is.readable stays gives.0 gives.1, gives.2)
 
-  -- the maps that these cursors list are out
+  -- what these cursors list is counted
   abbrev pub AreOut : Opened → Type 0
-  AreOut cursors = (n : ℕ) → 0 < listed_by (component.Map n) (views_out cursors) → 0 < count_of views (component.Map n)
+  AreOut cursors = (c : Component) → 0 < listed_by c (views_out cursors) → 0 < count_of views c
 
-  first_out : (e : List ℕ × OpenCursor) (es : Opened) → AreOut (e ∷ es) → (n : ℕ) → IsOneOf (map_numbers (view_of e.1.rows)) n → 0 < count_of views (component.Map n)
-  first_out e es out n has = out n (omega (arith, parts_list n (view_of e.1.rows) has))
+  first_out : (e : List ℕ × OpenCursor) (es : Opened) → AreOut (e ∷ es) → AreCounted views (view_of e.1.rows)
+  first_out e es out c some = out c (omega (arith, some))
 
   others_out : (e : List ℕ × OpenCursor) (es : Opened) → AreOut (e ∷ es) → AreOut es
-  others_out e es out n some = out n (omega (arith, some))
+  others_out e es out c some = out c (omega (arith, some))
 
   -- each of these cursors can be read on
   pub all_kept : (es : Opened) → AreOut es → AllByRecursion (λ (e : List ℕ × OpenCursor). IsKept was old e.1) es → AllByRecursion (λ (e : List ℕ × OpenCursor). IsKept now new e.1) es
@@ -172,7 +189,7 @@ module _ (was now : Option Folder) (views : Book) (old new : Parts) (keeps : Kee
 
 module _ (was now : Option Folder) (old new : Parts) (session : SessionState) (are : AreCursors was old session) (keeps : KeepsViews was now session.views old new) where
   each_out : AreOut was now session.views old new keeps session.cursors
-  each_out n some = omega (arith, some, are.counted.counts (component.Map n))
+  each_out c some = omega (arith, some, are.counted.counts c)
 
   -- **The open cursors can be read on,**
   pub cursors_kept : AreCursors now new session

@@ -1,8 +1,8 @@
 -- A cursor that is opened, over the tables after the freeze: it gives the rows that the SELECT has, and the others stay.
-use Rattle.std.proofs.Common.{◌≡◌, ◌-◌, ◌<◌, ◌++◌, ℕ, Bool, true, false, if◌then◌else◌, length, List, [], ◌∷◌, map, slice_get, Option, Some, refl, sym, ap, subst, ◌∙◌, length-append, arith}
-use Rattle.std.specs.Prelude.{Contains}
+use Rattle.std.proofs.Common.{◌≡◌, ◌-◌, ◌<◌, ◌++◌, ◌||◌, ℕ, Bool, true, false, if◌then◌else◌, length, List, [], ◌∷◌, map, slice_get, Option, Some, refl, sym, ap, subst, ◌∙◌, length-append, arith}
 use Rattle.std.proofs.lemmas.List.{map-append}
-use Rattle.std.specs.List.{AllByRecursion, flat_map}
+use Rattle.std.specs.List.{AllByRecursion, flat_map, list_any}
+use Rattle.std.proofs.lemmas.List.Folds.{list_any-append}
 use Rattle.std.specs.Option.{option_map_or}
 use Rattle.sasi_types.specs.declared.class.Class.{Class}
 use Rattle.sasi_types.specs.declared.column.ColumnType.{ColumnType}
@@ -10,8 +10,9 @@ use Rattle.sasi_cells.specs.Maps.{merged}
 use Rattle.sasi_cells.specs.declared.picked.Picked.{Picked}
 use Rattle.sasi_host.proofs.ContentLaws.{told_files}
 use Rattle.sasi_host.specs.declared.name.FileName.{FileName}
-use Rattle.sasi_host.specs.Names.{Folder}
+use Rattle.sasi_host.specs.Names.{Folder, name_eq}
 use Rattle.sasi_host.specs.View.{IsSound, View}
+use Rattle.sasi_layout.proofs.FileNameLaws.{has_name_by}
 use Rattle.sasi_layout.proofs.LayoutLaws.{freeze_state}
 use Rattle.sasi_layout.specs.Layout.{File, Layout, TableParts, listed_of, state_of}
 use Rattle.sasi_layout.specs.Moves.{Freeze, after_moves}
@@ -21,6 +22,7 @@ use Rattle.sasi_machine.proofs.CursorTurns.{opened_agrees}
 use Rattle.sasi_machine.specs.Prepares.{rows_asked}
 use Rattle.sasi_machine.specs.declared.prepared.OpenAsked.{OpenAsked}
 use Rattle.sasi_manifest.specs.Edits.{files_of}
+use Rattle.sasi_manifest.specs.FileNames.{has_name}
 use Rattle.sasi_manifest.specs.ListedDefinition.{ListedDefinition}
 use Rattle.sasi_manifest.specs.ListedFiles as manifests
 use Rattle.sasi_manifest.specs.ListedTables.{listed}
@@ -28,7 +30,6 @@ use Rattle.sasi_manifest.specs.declared.files.ListedFile.{ListedFile}
 use Rattle.sasi_manifest.specs.declared.listing.Listing.{Listing}
 use Rattle.sasi_memindex.specs.Book.{Book as MapBook}
 use Rattle.sasi_model.specs.Filters.{where_of}
-use Rattle.sasi_model.specs.Sessions as model
 use Rattle.sasi_model.specs.State.{State}
 use Rattle.sasi_candidates.specs.Checks.{rows as answer}
 use Rattle.sasi_candidates.specs.Parts.{maps_of}
@@ -43,7 +44,7 @@ use Rattle.sasi_views.specs.Parts.{ListsOnce, components_of}
 use Rattle.sasi_views.specs.declared.part.Part.{Part}
 use Rattle.sasi_views.specs.declared.part.Part.TheVariants.{Map}
 use Rattle.sasi_engine.specs.HitCandidates.{PlanWorld}
-use Rattle.sasi_engine.specs.Plans.{map_numbers}
+use Rattle.sasi_engine.specs.Plans.{is_file_of, map_numbers, names_of}
 use Rattle.sasi_plan.specs.Answers.{RowsLeft, row_of}
 use Rattle.sasi_plan.specs.Plans.{PlanView}
 use Rattle.sasi_plan.specs.Reading.{IsReadIn, PendingReady}
@@ -60,6 +61,8 @@ use Rattle.sasi_tables.specs.TablesView.{IsOfParts, held_in, memory_of}
 use Rattle.sasi_tables.specs.ViewParts.{aside_parts, current_parts, frozen_numbers, listed_parts}
 use Rattle.sasi_tables.specs.declared.parts.Parts.{Parts}
 use Rattle.sasi_tables.specs.declared.table_maps.TableMaps.{TableMaps}
+use Rattle.sasi_tasks.specs.MakesTaskMoves.{CanGoOn}
+use Rattle.sasi_tasks.specs.Running.{IsListedOrGone}
 use Rattle.sasi_store.specs.CursorCalls.{IsOpened}
 use Rattle.sasi_store.specs.Cursors.{AreCursors, GivesRows, IsKept, IsKeptPart, view_names, views_out, views_told}
 use Rattle.sasi_store.specs.Selects.{IsPlanFor}
@@ -69,10 +72,11 @@ use Rattle.sasi_store.specs.declared.session_state.OpenCursor.{OpenCursor}
 use Rattle.sasi_store.specs.declared.session_state.SessionState.{SessionState}
 use Rattle.sasi_store.proofs.KeptCursors.{KeepsViews, cursors_kept, cursors_still}
 use Rattle.sasi_store.proofs.Known.{known_after}
+use Rattle.sasi_store.proofs.OpenedTasks.{freeze_runs, goes_on_opened, tasks_run}
 use Rattle.sasi_store.proofs.OpenedViews.{aside_kept, aside_once, keys_front, memtable_last, ready_front}
 use Rattle.sasi_store.proofs.OpenedWorlds.{opened, opened_have, opened_read, opened_rows}
 use Rattle.sasi_store.proofs.Planned.{plan_prints, plan_ready}
-use Rattle.sasi_store.proofs.ViewFiles.{view_once}
+use Rattle.sasi_store.proofs.ViewFiles.{name_listed, view_files, view_once}
 
 -- a freeze leaves the manifest,
 pub frozen_manifest : (table : ℕ) (old new : Parts) (t : HeldTable) → slice_get (held_in old) (table - 1) ≡ Some t → HasFrozenWhere table old new → new.manifest ≡ old.manifest
@@ -81,6 +85,14 @@ frozen_manifest table old new t there frozen = by (any_partition (t.memtable.par
     by : (b : Bool) → HasFrozenIf b (table - 1) t old new → new.manifest ≡ old.manifest
     by true is = λ i. (is.rest i).manifest
     by false is = λ i. (is i).manifest
+
+-- and the numbers,
+pub frozen_numbers_stay : (table : ℕ) (old new : Parts) (t : HeldTable) → slice_get (held_in old) (table - 1) ≡ Some t → HasFrozenWhere table old new → new.numbers.«data» ≡ old.numbers.«data»
+frozen_numbers_stay table old new t there frozen = by (any_partition (t.memtable.partitions ∷ [])) (frozen t there)
+  where
+    by : (b : Bool) → HasFrozenIf b (table - 1) t old new → new.numbers.«data» ≡ old.numbers.«data»
+    by true is = λ i. (is.rest i).numbers.«data»
+    by false is = λ i. (is i).numbers.«data»
 
 -- and the state
 freeze_same : (table : ℕ) (l : Layout) → state_of (after_moves (freeze_where table l) l) ≡ state_of l
@@ -96,9 +108,14 @@ names_listed [] [] = refl
 names_listed [] (n ∷ ns) = names_listed [] ns
 names_listed (f ∷ fs) ns = ap (λ (l : List FileName). manifests.names_of f ++ l) (names_listed fs ns)
 
+-- a name of a view is that of one of its parts
+pub names_any : (name : FileName) (ps : List Part) → is_file_of ps name ≡ list_any (name_eq name) (view_names ps)
+names_any name [] = refl
+names_any name (part ∷ ps) = ap (λ b. list_any (name_eq name) (names_of part) || b) (names_any name ps) ∙ sym (list_any-append (name_eq name) (names_of part) (view_names ps))
+
 module _ (kinds : List Class) (v : View) (sound : IsSound v) (asked : OpenAsked) (old new : Parts) (was : SessionState) (views : Book) (rows : Cursor) (are : AreCursors v.files old was) (known_all : KnowsAll kinds old was)
-    (serves : (l : Layout) → Serves v (memory_of old) l → Serves v (memory_of new) (after_moves (freeze_where asked.rows.table l) l)) (ready : CanChange v (memory_of new)) (of : IsOfParts new)
-    (knows : Knows (memory_of new) old.schema.definitions old.max_timestamp) (manifest : new.manifest ≡ old.manifest) (pinned : KeepsPinned was.views old new) (empty : HasEmptyMemtable asked.rows.table new) (plan : PlanView)
+    (serves : (l : Layout) → Serves v (memory_of old) l → Serves v (memory_of new) (after_moves (freeze_where asked.rows.table l) l)) (ready : CanChange v (memory_of new)) (of : IsOfParts new) (on : CanGoOn v was.views old was.tasks.items)
+    (numbers_are : new.numbers.«data» ≡ old.numbers.«data») (knows : Knows (memory_of new) old.schema.definitions old.max_timestamp) (manifest : new.manifest ≡ old.manifest) (pinned : KeepsPinned was.views old new) (empty : HasEmptyMemtable asked.rows.table new) (plan : PlanView)
     (is : IsPlanFor new asked.rows plan) (known : KnowsWhere kinds plan.conditions) (taken : Taken was.views views (components_of (aside_parts new asked.rows.table))) (few : length was.cursors < 64)
     (view_is : view_of rows ≡ aside_parts new asked.rows.table) (picked_is : rows.reader.picked ≡ plan.picked) (filter_is : rows.reader.rows.filter ≡ plan.conditions)
     (left : (w : PlanWorld) (book : MapBook) → IsReadIn w plan (aside_parts new asked.rows.table) book
@@ -131,8 +148,9 @@ module _ (kinds : List Class) (v : View) (sound : IsSound v) (asked : OpenAsked)
   keeps : KeepsViews v.files v.files was.views old new
   keeps = record {
     told = λ some. some;
-    files = λ name listed. refl;
-    listed = λ table f has. subst (λ (k : Listing). Contains (files_of k.tables table) f) (sym listing_is) has;
+    files = λ name held. refl;
+    places = λ table f held place. subst (λ (k : Listing). IsListedOrGone k table f) (sym listing_is) place;
+    numbers = omega (arith, numbers_are);
     types = λ at t there. (t, ap (λ (k : Listing). slice_get k.tables at) listing_is ∙ there, refl);
     maps = pinned;
   }
@@ -149,7 +167,7 @@ module _ (kinds : List Class) (v : View) (sound : IsSound v) (asked : OpenAsked)
         (ready_front new.maps own.0.memtable plan.source parts (subst (λ (ps : List Part). PendingReady plan.source ps new.maps) last (plan_ready v new of ready asked.rows plan is)))
         (keys_front new.maps own.0.memtable plan.types plan.picked.key parts
         (subst (λ (ps : List Part). HasKeyType plan.types (views_numbered new.maps (map_numbers ps)) plan.picked.key) last (plan_prints v new of ready asked.rows plan is))));
-    parts = subst (AllByRecursion (IsKeptPart new number)) (sym view_is) (aside_kept new number own.0 own.1 of);
+    parts = subst (AllByRecursion (IsKeptPart new number)) (sym view_is) (aside_kept new number own.0 own.1 v ready of);
     once = subst ListsOnce (sym view_is) (aside_once new number own.0 own.1 (view_once v new ready number of));
   }
 
@@ -175,6 +193,13 @@ module _ (kinds : List Class) (v : View) (sound : IsSound v) (asked : OpenAsked)
       ∙ sym (ap (λ (o : Option ListedDefinition). flat_map manifests.names_of (option_map_or (λ (x : ListedDefinition). x.files) o [])) is.there)
       ∙ sym (names_listed (files_of new.manifest.listing.tables number) (frozen_numbers new.tables.items number)) ∙ ap view_names (sym view_is)
 
+  -- its files are listed
+  own_listed : (name : FileName) → list_any (name_eq name) (view_names parts) ≡ true → has_name new.manifest.listing.tables name ≡ true
+  own_listed name is =
+      has_name_by name new.manifest.listing.tables
+      ∙ name_listed new.manifest.listing.tables (number - 1) name
+      (sym (view_files (files_of new.manifest.listing.tables number) (frozen_numbers new.tables.items number) name) ∙ names_any name parts ∙ is)
+
   -- **The session has one cursor more, with the rows of its SELECT.**
   pub is_opened : IsOpened kinds v asked old new was now
   is_opened = record {
@@ -182,12 +207,12 @@ module _ (kinds : List Class) (v : View) (sound : IsSound v) (asked : OpenAsked)
       serves = serves w.layout served.serves;
       trace_is = served.trace_is;
       cursors_are = opened_agrees (GivesRows v.files new.maps) was.cursors w.session (cursors_still v.files v.files old new was are keeps w.session served.cursors_are) asked.cursor (rows_asked (state_of w.layout) asked.rows) c (gives w.layout served.serves);
+      tasks_are = tasks_run v w.layout (after_moves (freeze_where number w.layout) w.layout) (freeze_runs number w.layout) was.tasks.items w.tasks served.tasks_are;
       views_are = ap (λ (vs : List (List ℕ × List FileName)). vs ++ (asked.cursor, table_names w.layout number) ∷ []) served.views_are
           ∙ ap (λ (names : List FileName). views_told was.cursors ++ (asked.cursor, names) ∷ []) (names_are w.layout served.serves)
           ∙ sym (map-append (λ (e : List ℕ × OpenCursor). (e.0, view_names (view_of e.1.rows))) was.cursors ((asked.cursor, c) ∷ []));
     };
-    ready = ready;
-    parts = of;
+    ready = goes_on_opened v was.views views old new was.tasks.items parts on ready of manifest numbers_are taken own_listed;
     cursors = record {
       counted = subst (IsCounted views) (sym (map-append (λ (e : List ℕ × OpenCursor). view_of e.1.rows) was.cursors ((asked.cursor, c) ∷ [])))
           (subst (λ (ps : List Part). IsCounted views (views_out was.cursors ++ ps ∷ [])) (sym view_is) (take_counted was.views views (views_out was.cursors) parts taken are.counted));
@@ -197,6 +222,7 @@ module _ (kinds : List Class) (v : View) (sound : IsSound v) (asked : OpenAsked)
     classes = record {
       tables = known_after kinds (memory_of new) old.schema.definitions old.max_timestamp knows known_all.tables;
       cursors = all_push (λ (e : List ℕ × OpenCursor). KnowsWhere kinds e.1.rows.reader.rows.filter) was.cursors (asked.cursor, c) known_all.cursors (subst (KnowsWhere kinds) (sym filter_is) known);
+      tasks = known_all.tasks;
     };
     knows = knows;
     manifest = manifest;

@@ -1,14 +1,19 @@
 -- The view of a cursor that is opened: the current parts of its table without the memtable, which is empty then.
-use Rattle.std.proofs.Common.{◌≡◌, ◌-◌, ◌≤◌, ◌++◌, ◌||◌, ◌==◌, Bool, true, false, not, ℕ, List, [], ◌∷◌, length, map, slice_get, Option, None, Some, refl, sym, ap, subst, ◌∙◌, append_assoc, arith, eqb-true}
+use Rattle.std.proofs.Common.{◌≡◌, ◌-◌, ◌≤◌, ◌++◌, ◌||◌, ◌==◌, Bool, true, false, not, ℕ, List, [], ◌∷◌, length, map, slice_get, Option, None, Some, refl, sym, ap, subst, ◌∙◌, append_assoc, arith, eqb-true, inl}
 use Rattle.std.specs.Prelude.{Contains}
 use Rattle.std.proofs.lemmas.Grind.{flat_map-append}
 use Rattle.std.proofs.lemmas.List.{map-append}
 use Rattle.std.specs.FinMap as map_
 use Rattle.std.specs.FinMap.{get}
-use Rattle.std.specs.List.{AllByRecursion}
+use Rattle.std.specs.List.{AllByRecursion, list_any}
 use Rattle.std.specs.Option.{option_map_or}
 use Rattle.sasi_types.specs.declared.column.ColumnType.{ColumnType}
+use Rattle.sasi_host.specs.Names.{data_name, name_eq}
+use Rattle.sasi_host.specs.View.{View}
+use Rattle.sasi_layout.proofs.FileNameLaws.{has_name_by, name_itself}
+use Rattle.sasi_layout.specs.Serving.{CanChange}
 use Rattle.sasi_layout.specs.Statements.{any_partition}
+use Rattle.sasi_manifest.specs.ListedFiles.{index_name}
 use Rattle.sasi_manifest.specs.declared.files.ListedFile.{ListedFile}
 use Rattle.sasi_manifest.specs.Edits.{files_of}
 use Rattle.sasi_memindex.specs.Book.{Book}
@@ -28,17 +33,19 @@ use Rattle.sasi_plan.specs.Reading.{PendingReady}
 use Rattle.sasi_plan.specs.declared.plan.PlanSource.{PlanSource}
 use Rattle.sasi_plan.specs.declared.plan.PlanSource.TheVariants.{Nothing, OfKey, OfTable}
 use Rattle.sasi_tables.proofs.HeldMaps.{first_in, later_in}
+use Rattle.sasi_tables.proofs.ListedFrames.{file_named}
+use Rattle.sasi_store.proofs.ListedNumbers.{listed_number}
 use Rattle.sasi_tables.proofs.PinnedMaps.{frozen_aside}
 use Rattle.sasi_tables.specs.Held.{numbers_of}
 use Rattle.sasi_tables.specs.Pinned.{IsAside}
-use Rattle.sasi_tables.specs.TablesView.{IsOfParts}
+use Rattle.sasi_tables.specs.TablesView.{IsOfParts, memory_of}
 use Rattle.sasi_tables.specs.ViewParts.{aside_parts, current_parts, file_part, listed_parts}
 use Rattle.sasi_tables.specs.declared.parts.Parts.{Parts}
 use Rattle.sasi_tables.specs.declared.table_maps.TableMaps.{TableMaps}
 use Rattle.sasi_store.specs.Cursors.{IsKeptPart}
 use Rattle.sasi_store.proofs.AsideViews.{all_front}
 use Rattle.sasi_store.proofs.ViewDamage.{each_in}
-use Rattle.sasi_store.proofs.ViewFiles.{lists_both}
+use Rattle.sasi_store.proofs.ViewFiles.{lists_both, name_listed}
 
 -- a map that holds nothing
 pub holds_nothing : (m : Partitions) → any_partition (m ∷ []) ≡ false → m ≡ map_.empty
@@ -101,13 +108,26 @@ module _ (p : Parts) (table : ℕ) (x : TableMaps) (there : slice_get p.tables.i
         lists_both c (components_of (aside_parts p table)) (components_of (memtable ∷ [])),
       )
 
-  parts_kept : (fs : List ListedFile) (ns : List ℕ) → AllByRecursion (λ (f : ListedFile). Contains files f) fs → ((n : ℕ) → Contains ns n → IsAside p n) → AllByRecursion (IsKeptPart p table) (listed_parts fs ns)
+  parts_kept : (fs : List ListedFile) (ns : List ℕ) → AllByRecursion (λ (f : ListedFile). (f.number ≤ p.numbers.«data») × Contains files f) fs → ((n : ℕ) → Contains ns n → IsAside p n) → AllByRecursion (IsKeptPart p table) (listed_parts fs ns)
   parts_kept [] [] all each = tt
   parts_kept [] (n ∷ ns) all each = (each n (first_in n ns), parts_kept [] ns all (λ k has. each k (later_in n ns k has)))
-  parts_kept (f ∷ fs) ns all each = (all.0, parts_kept fs ns all.1 each)
+  parts_kept (f ∷ fs) ns all each = ((all.0.0, inl all.0.1), parts_kept fs ns all.1 each)
+
+  -- each listed file has a used number
+  files_used : (v : View) → CanChange v (memory_of p) → (fs : List ListedFile) → AllByRecursion (λ (f : ListedFile). Contains files f) fs → AllByRecursion (λ (f : ListedFile). (f.number ≤ p.numbers.«data») × Contains files f) fs
+  files_used v ready [] all = tt
+  files_used v ready (f ∷ fs) all = (
+    (
+      listed_number p.manifest (memory_of p).used ready.numbered (data_name f.number)
+          (has_name_by (data_name f.number) p.manifest.listing.tables
+          ∙ name_listed p.manifest.listing.tables (table - 1) (data_name f.number) (file_named (data_name f.number) files f all.0 (ap (λ b. b || list_any (name_eq (data_name f.number)) (map (index_name f.number) f.parts)) (name_itself (data_name f.number))))),
+      all.0,
+    ),
+    files_used v ready fs all.1,
+  )
 
   -- **The others are listed files and frozen maps.**
-  pub aside_kept : IsOfParts p → AllByRecursion (IsKeptPart p table) (aside_parts p table)
-  aside_kept of =
+  pub aside_kept : (v : View) → CanChange v (memory_of p) → IsOfParts p → AllByRecursion (IsKeptPart p table) (aside_parts p table)
+  aside_kept v ready of =
       subst (λ (o : Option TableMaps). AllByRecursion (IsKeptPart p table) (listed_parts files (option_map_or (λ (t : TableMaps). t.frozen) o []))) (sym there)
-      (parts_kept files x.frozen (each_in files) (λ n has. frozen_aside p of (table - 1) x there n has))
+      (parts_kept files x.frozen (files_used v ready files (each_in files)) (λ n has. frozen_aside p of (table - 1) x there n has))

@@ -3,7 +3,7 @@ use Rattle.std.proofs.Common.{◌≡◌, ◌++◌, List, ℕ, [], false, Ok, Som
 use Rattle.std.specs.List.{list_any}
 use Rattle.sasi_cursors.specs.Cursors.{is_open}
 use Rattle.sasi_host.specs.View.{IsSound, View}
-use Rattle.sasi_layout.specs.Serving.{CanChange, known_in_memory}
+use Rattle.sasi_layout.specs.Serving.{known_in_memory}
 use Rattle.sasi_machine.proofs.SessionTurns.{closed_refused, fetched_refused, opened_refused}
 use Rattle.sasi_machine.specs.Outcome.{outcome_of}
 use Rattle.sasi_machine.specs.Prepares.{ClosesCursor, FetchesRows, IsStateOf, OpensCursor, SaysOne, StepsTo}
@@ -26,10 +26,12 @@ use Rattle.sasi_store.specs.Cursors.{AreCursors}
 use Rattle.sasi_store.specs.Steps.{StepPromises}
 use Rattle.sasi_tables.specs.TablesView.{memory_of}
 use Rattle.sasi_tables.specs.declared.parts.Parts.{Parts}
+use Rattle.sasi_tasks.specs.MakesTaskMoves.{CanGoOn}
 use Rattle.sasi_store.specs.declared.session_state.SessionState.{SessionState as StoreSession}
 use Rattle.sasi_store.proofs.Stepping.{step_ruled}
+use Rattle.sasi_tasks.specs.MakesTaskMoves.{CanGoOn}
 
-module _ {was : StoreSession} (kinds : List Class) (v : View) (sound : IsSound v) (old : Parts) (piece : Piece) (front reply : List ℕ) (outcome : Outcome) (ready : CanChange v (memory_of old)) (is : asks (known_in_memory (memory_of old)) piece ≡ ask.NoChange)
+module _ {was : StoreSession} (kinds : List Class) (v : View) (sound : IsSound v) (old : Parts) (piece : Piece) (front reply : List ℕ) (outcome : Outcome) (ready : CanGoOn v was.views old was.tasks.items) (is : asks (known_in_memory (memory_of old)) piece ≡ ask.NoChange)
     (are : AreCursors v.files old was) (empty : front ≡ []) where
   -- **An OPEN that a rule of cursors refuses leaves all.**
   pub step_open_refused : (asked : OpenAsked) (r : Refusal) → open_refusal was.cursors asked ≡ Some r

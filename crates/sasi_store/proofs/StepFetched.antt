@@ -1,15 +1,14 @@
 -- A step that answers a FETCH from a cursor that is open.
-use Rattle.std.proofs.Common.{◌≡◌, Some, IfErr, IfOk, OnOk, Result, ◌++◌, Bool, true, false, if◌then◌else◌, ℕ, List, [], ◌∷◌, drop, map, take, Option, None, Ok, Err, refl, inl, inr, sym, ap, subst, ◌∙◌}
+use Rattle.std.proofs.Common.{◌≡◌, Some, IfErr, IfOk, Result, ◌++◌, Bool, true, false, if◌then◌else◌, ℕ, List, [], ◌∷◌, drop, map, take, Option, None, Ok, Err, refl, inl, inr, sym, ap, subst, ◌∙◌}
 use Rattle.std.proofs.lemmas.List.{append-nil}
 use Rattle.std.specs.List.{list_any}
 use Rattle.sasi_cursors.specs.Cursors.{is_open}
-use Rattle.sasi_folder.specs.Damages.{FolderShows}
 use Rattle.sasi_host.specs.Disk.{Changes, Same}
 use Rattle.sasi_host.specs.Names.{Folder}
 use Rattle.sasi_host.specs.View.{IsSound, View}
 use Rattle.sasi_layout.specs.Layout.{Layout, state_of}
 use Rattle.sasi_layout.specs.Moves.{after_moves}
-use Rattle.sasi_layout.specs.Serving.{CanChange, known_in_memory}
+use Rattle.sasi_layout.specs.Serving.{known_in_memory}
 use Rattle.sasi_layout.specs.Spent.{spent}
 use Rattle.sasi_machine.proofs.SessionTurns.{fetched_turns}
 use Rattle.sasi_machine.specs.Outcome.{outcome_of}
@@ -32,7 +31,7 @@ use Rattle.sasi_types.specs.declared.class.Class.{Class}
 use Rattle.sasi_types.specs.declared.statement.Statement.{Statement}
 use Rattle.sasi_types.specs.declared.statement.Statement.TheVariants.{Fetch}
 use Rattle.sasi_tables.specs.Faults.{OnMissing, OnSpent, OnStepDamage, StepCauses}
-use Rattle.sasi_tables.specs.TablesView.{IsOfParts, memory_of}
+use Rattle.sasi_tables.specs.TablesView.{memory_of}
 use Rattle.sasi_tables.specs.declared.fault.StepFault.{StepFault}
 use Rattle.sasi_tables.specs.declared.parts.Parts.{Parts}
 use Rattle.sasi_store.specs.Answers.{IsFetch}
@@ -42,8 +41,9 @@ use Rattle.sasi_store.specs.Selects.{HasShortRows}
 use Rattle.sasi_store.specs.Steps.{StepPromises}
 use Rattle.sasi_store.specs.Worlds.{PartsServe, World, fetched_world, steps, told_in}
 use Rattle.sasi_store.specs.declared.session_state.SessionState.{SessionState as StoreSession}
-use Rattle.sasi_store.proofs.PlainPieces.{IsPlain, plain_moves, plain_views}
-use Rattle.sasi_store.proofs.SameFiles.{ready_same}
+use Rattle.sasi_store.proofs.PlainPieces.{IsPlain, plain_moves, plain_tasks, plain_views}
+use Rattle.sasi_store.specs.HeldDamage.{StepShows}
+use Rattle.sasi_tasks.specs.MakesTaskMoves.{CanGoOn}
 use Rattle.sasi_store.proofs.StepCursors.{step_fetch_refused}
 use Rattle.sasi_store.proofs.Stepping.{moves_are, names_of_world, read_failed, state_is, step_taken}
 
@@ -76,7 +76,7 @@ names_given name count (c ∷ cs) = by (same name c.name) (names_given name coun
     by false rest = ap (λ (names : List (List ℕ)). c.name ∷ names) rest
 
 module _ {was now : StoreSession} (kinds : List Class) (a b : View) (sound : IsSound a) (p : Parts) (piece : Piece) (asked : FetchAsked) (front reply : List ℕ) (change : Changes Same a b) (is : asks (known_in_memory (memory_of p)) piece ≡ ask.NoChange) (fetch : IsFetch (read piece)) where
-  module _ (outcome : Outcome) (ready : CanChange a (memory_of p)) (empty : front ≡ [])
+  module _ (outcome : Outcome) (empty : front ≡ [])
       (prepares : (s : State) → IsStateOf (known_in_memory (memory_of p)) s → StepsTo s piece s [] Done × (front ≡ []) × SaysOne piece (λ statement. FetchesRows s statement asked))
       (there : is_open asked.cursor was.cursors ≡ true) (outcome_is : outcome ≡ outcome_of None) (fetched : IsFetched kinds a b asked p was now front reply) (causes : StepCauses a b (Ok outcome)) where
     -- the session of the model then
@@ -107,9 +107,12 @@ module _ {was now : StoreSession} (kinds : List Class) (a b : View) (sound : IsS
       views_then : (steps.after w piece).views ≡ w.views
       views_then = plain_views w piece (fetch_plain (read piece) fetch)
 
+      tasks_then : (steps.after w piece).tasks ≡ w.tasks
+      tasks_then = plain_tasks w piece (fetch_plain (read piece) fetch)
+
       -- so it is the world in which one has given rows,
       world_then : steps.after w piece ≡ fetched_world asked w
-      world_then = λ i. record { layout = after_moves (moves_then i) w.layout; session = (turn_here i).session; views = views_then i }
+      world_then = λ i. record { layout = after_moves (moves_then i) w.layout; session = (turn_here i).session; views = views_then i; tasks = tasks_then i }
 
       -- and these are the reply
       reply_then : reply ≡ steps.reply w piece
@@ -133,35 +136,30 @@ module _ {was now : StoreSession} (kinds : List Class) (a b : View) (sound : IsS
           outcome_is = outcome_is ∙ ap (λ (t : Turn). outcome_of t.refused) (sym (turn x s named of));
           reply_is = λ other. absurd (other (inr (inl fetch), ap (λ (t : Turn). t.refused) (turn x s named of)));
         })
-        (ready_same a b change (memory_of p) ready) fetched.cursors fetched.classes (λ table f has. has)
-        (λ other. absurd (other (inr fetch))) (λ w serves short. absurd (no_bound a.files w.layout (read piece) fetch short)) causes
+        fetched.ready fetched.cursors fetched.classes
+        (λ other. absurd (other (inr (inl fetch)))) (λ w serves short. absurd (no_bound a.files w.layout (read piece) fetch short)) causes
 
   -- **One that fails reports what the folder shows.**
-  step_fetch_failed : {T : Type 0} (e : StepFault) → ((folder : Folder) → b.files ≡ Some folder → OnStepDamage (FolderShows folder) e) → ((w : World) → PartsServe a p was w → OnStepDamage (λ _. ⊥) e) → OnSpent (λ _. ⊥) e → OnMissing (λ _. ⊥) e
+  step_fetch_failed : {T : Type 0} (e : StepFault) → ((folder : Folder) → b.files ≡ Some folder → OnStepDamage (StepShows was.views folder) e) → ((w : World) → PartsServe a p was w → OnStepDamage (λ _. ⊥) e) → OnSpent (λ _. ⊥) e → OnMissing (λ _. ⊥) e
       → StepCauses {T = T} a b (Err e) → StepPromises kinds piece a b p p was now reply (Err e)
   step_fetch_failed e damaged undamaged unspent present causes =
-      read_failed kinds a b sound p piece reply e change (inr fetch) damaged undamaged unspent present (λ w serves short. absurd (no_bound a.files w.layout (read piece) fetch short)) causes
+      read_failed kinds a b sound p piece reply e change (inr (inl fetch)) damaged undamaged unspent present (λ w serves short. absurd (no_bound a.files w.layout (read piece) fetch short)) causes
 
   -- **FETCH keeps its promises**, whatever the call answered.
-  pub step_fetch : (result : Result Outcome StepFault) (later : List Class) → later ≡ kinds → CanChange a (memory_of p) → AreCursors a.files p was → front ≡ []
+  pub step_fetch : (result : Result Outcome StepFault) (later : List Class) → later ≡ kinds → CanGoOn a was.views p was.tasks.items → AreCursors a.files p was → front ≡ []
       → ((s : State) → IsStateOf (known_in_memory (memory_of p)) s → StepsTo s piece s [] Done × (front ≡ []) × SaysOne piece (λ statement. FetchesRows s statement asked))
       → IfOk result (λ outcome. is_open asked.cursor was.cursors ≡ false → (outcome ≡ outcome_of (Some (NoCursor asked.cursor))) × (reply ≡ front ++ refusal_line (NoCursor asked.cursor)) × (now ≡ was))
       → IfOk result (λ outcome. is_open asked.cursor was.cursors ≡ true → (outcome ≡ outcome_of None) × IsFetched later a b asked p was now front reply)
       → ((P : View → Type 0) → is_open asked.cursor was.cursors ≡ false → P a → P b)
-      → ((folder : Folder) → b.files ≡ Some folder → IfErr result (OnStepDamage (FolderShows folder))) → ((w : World) → PartsServe a p was w → IfErr result (OnStepDamage (λ _. ⊥))) → IfErr result (OnSpent (λ _. ⊥)) → IfErr result (OnMissing (λ _. ⊥))
+      → ((folder : Folder) → b.files ≡ Some folder → IfErr result (OnStepDamage (StepShows was.views folder))) → ((w : World) → PartsServe a p was w → IfErr result (OnStepDamage (λ _. ⊥))) → IfErr result (OnSpent (λ _. ⊥)) → IfErr result (OnMissing (λ _. ⊥))
       → StepCauses a b result → StepPromises kinds piece a b p p was now reply result
   step_fetch (Err e) later kinds_are ready are empty prepares refused taken left damaged undamaged unspent present causes = step_fetch_failed e damaged undamaged unspent present causes
   step_fetch (Ok outcome) later kinds_are ready are empty prepares refused taken left damaged undamaged unspent present causes = by (is_open asked.cursor was.cursors) refl
     where
       by : (o : Bool) → is_open asked.cursor was.cursors ≡ o → StepPromises kinds piece a b p p was now reply (Ok outcome)
-      by true there = (let said = taken there in step_fetched outcome ready empty prepares there said.0 (subst (λ (there : List Class). IsFetched there a b asked p was now front reply) kinds_are said.1) causes)
+      by true there = (let said = taken there in step_fetched outcome empty prepares there said.0 (subst (λ (there : List Class). IsFetched there a b asked p was now front reply) kinds_are said.1) causes)
       by false free =
           let said = refused free in
           subst (λ (n : StoreSession). StepPromises kinds piece a b p p was n reply (Ok outcome)) (sym said.2)
           (left (λ (y : View). StepPromises kinds piece a y p p was was reply (Ok outcome)) free
           (step_fetch_refused kinds a sound p piece front reply outcome ready is are empty asked free prepares said.1 said.0))
-
--- it leaves the parts
-pub parts_left : (p : Parts) (result : Result Outcome StepFault) → IsOfParts p → OnOk result (IsOfParts p)
-parts_left p (Ok outcome) of = of
-parts_left p (Err e) of = tt

@@ -1,5 +1,5 @@
 -- A step that answers an OPEN which no rule of cursors refuses: one cursor more is open, over what its table has. No call is made.
-use Rattle.std.proofs.Common.{◌≡◌, Err, IfErr, IfOk, OnOk, Result, ◌++◌, Bool, true, false, if◌then◌else◌, ℕ, List, [], ◌∷◌, map, Option, None, Some, Ok, refl, sym, ap, subst, ◌∙◌, arith}
+use Rattle.std.proofs.Common.{◌≡◌, Err, IfErr, IfOk, Result, ◌++◌, Bool, true, false, if◌then◌else◌, ℕ, List, [], ◌∷◌, map, Option, None, Some, Ok, refl, sym, ap, subst, ◌∙◌, arith}
 use Rattle.std.proofs.lemmas.List.{append-nil, map-append}
 use Rattle.std.specs.Option.{option_map_or}
 use Rattle.sasi_host.proofs.ChangeLaws.{stays}
@@ -7,7 +7,7 @@ use Rattle.sasi_host.specs.View.{IsSound, View}
 use Rattle.sasi_layout.proofs.StatementLaws.{definitions_are}
 use Rattle.sasi_layout.specs.Layout.{Layout, state_of}
 use Rattle.sasi_layout.specs.Moves.{Freeze, Move, after_moves}
-use Rattle.sasi_layout.specs.Serving.{CanChange, known_in_memory}
+use Rattle.sasi_layout.specs.Serving.{known_in_memory}
 use Rattle.sasi_layout.specs.Spent.{spent}
 use Rattle.sasi_layout.specs.Statements.{definitions_of, moves_of}
 use Rattle.sasi_machine.proofs.CursorTurns.{opens_from}
@@ -17,7 +17,6 @@ use Rattle.sasi_machine.specs.Prepares.{IsStateOf, OpensCursor, SaysOne, StepsTo
 use Rattle.sasi_machine.specs.declared.outcome.Outcome.{Outcome}
 use Rattle.sasi_machine.specs.declared.outcome.Outcome.TheVariants.{Done}
 use Rattle.sasi_machine.specs.declared.prepared.OpenAsked.{OpenAsked}
-use Rattle.sasi_manifest.specs.OpenManifest.{ManifestState}
 use Rattle.sasi_model.specs.Abbreviations.{first_refusal, ok_line}
 use Rattle.sasi_model.specs.Asked as ask
 use Rattle.sasi_model.specs.Asked.{asks}
@@ -34,16 +33,16 @@ use Rattle.sasi_types.specs.declared.statement.Select.{Select}
 use Rattle.sasi_types.specs.declared.statement.Statement.{Statement}
 use Rattle.sasi_types.specs.declared.statement.Statement.TheVariants.{OpenCursor}
 use Rattle.sasi_tables.proofs.MoveCauses.{none_made}
-use Rattle.sasi_tables.specs.Frames.{KeepsFilesOf}
 use Rattle.sasi_tables.specs.Freezing.{freeze_where, holds_any}
-use Rattle.sasi_tables.specs.TablesView.{IsOfParts, memory_of}
+use Rattle.sasi_tables.specs.TablesView.{memory_of}
 use Rattle.sasi_tables.specs.declared.fault.StepFault.{StepFault}
 use Rattle.sasi_tables.specs.declared.fault.StepFault.TheVariants.{OutOfMemory}
 use Rattle.sasi_tables.specs.declared.parts.Parts.{Parts}
 use Rattle.sasi_store.specs.CursorCalls.{IsOpened, open_refusal}
 use Rattle.sasi_store.specs.Cursors.{AreCursors, HasNamesOf}
 use Rattle.sasi_store.specs.Steps.{StepPromises}
-use Rattle.sasi_store.specs.Worlds.{PartsServe, World, opened_world, opening_moves, steps, table_names, unless_refused, views_after}
+use Rattle.sasi_store.specs.Worlds.{PartsServe, World, opened_world, session_moves, steps, table_names, tasks_after, unless_refused, views_after}
+use Rattle.sasi_tasks.specs.MakesTaskMoves.{CanGoOn}
 use Rattle.sasi_store.specs.declared.session_state.SessionState.{SessionState as StoreSession}
 use Rattle.sasi_store.proofs.Known.{known_as}
 use Rattle.sasi_store.proofs.StepCursors.{step_open_refused}
@@ -111,9 +110,10 @@ module _ {was now : StoreSession} (kinds : List Class) (v : View) (sound : IsSou
     -- its table is frozen where its memtable holds anything,
     moves_then : steps.moves w piece ≡ freeze_where asked.rows.table w.layout
     moves_then =
-        ap (λ (o : Option Refusal). unless_refused o (opening_moves w.layout (read piece)) [] ++ moves_of w.layout piece) taken
-        ∙ ap (λ (parsed : ParsedPiece). opening_moves w.layout parsed ++ moves_of w.layout piece) reads
-        ∙ ap (λ (o : Option ℕ). option_map_or (λ number. freeze_where number w.layout) o [] ++ moves_of w.layout piece) number_is
+        ap (λ (o : Option Refusal). unless_refused o (session_moves w (read piece)) [] ++ moves_of w.layout piece) taken
+        ∙ ap (λ (parsed : ParsedPiece). session_moves w parsed ++ moves_of w.layout piece) reads
+        ∙ ap (λ (o : Option ℕ). (option_map_or (λ number. freeze_where number w.layout) o [] ++ []) ++ moves_of w.layout piece) number_is
+        ∙ ap (λ (ms : List Move). ms ++ moves_of w.layout piece) (append-nil (freeze_where asked.rows.table w.layout))
         ∙ ap (λ (ms : List Move). freeze_where asked.rows.table w.layout ++ ms) (moves_are v (memory_of old) piece ask.NoChange is w.layout serves.serves)
         ∙ append-nil (freeze_where asked.rows.table w.layout)
 
@@ -124,9 +124,13 @@ module _ {was now : StoreSession} (kinds : List Class) (v : View) (sound : IsSou
         ∙ ap (λ (parsed : ParsedPiece). views_after w.layout parsed w.views) reads
         ∙ ap (λ (o : Option ℕ). w.views ++ (asked.cursor, option_map_or (table_names w.layout) o []) ∷ []) number_is
 
+    -- it leaves the tasks,
+    tasks_then : (steps.after w piece).tasks ≡ w.tasks
+    tasks_then = ap (λ (o : Option Refusal). unless_refused o (tasks_after w.layout (read piece) w.tasks) w.tasks) taken ∙ ap (λ (parsed : ParsedPiece). tasks_after w.layout parsed w.tasks) reads
+
     -- so it is the world in which one was opened
     world_then : steps.after w piece ≡ opened_world asked w
-    world_then = λ i. record { layout = after_moves (moves_then i) w.layout; session = (turn_here i).session; views = views_then i }
+    world_then = λ i. record { layout = after_moves (moves_then i) w.layout; session = (turn_here i).session; views = views_then i; tasks = tasks_then i }
 
   -- **An OPEN is answered as the model does.**
   step_opened : StepPromises kinds piece v v old new was now reply (Ok outcome)
@@ -144,7 +148,6 @@ module _ {was now : StoreSession} (kinds : List Class) (v : View) (sound : IsSou
       answered_as new now x (session_then x s) s piece reply outcome (turns x s named of) (named_then x s named)
       (subst (IsStateOf (known_in_memory (memory_of new))) (sym (prepares s of).0.state_is) (known_as (memory_of new) old.schema.definitions old.max_timestamp s opened.knows of)))
       opened.ready opened.cursors (λ known. opened.classes)
-      (subst (λ (m : ManifestState). KeepsFilesOf old.manifest.listing m.listing) (sym opened.manifest) (λ table f has. has))
       (λ other. refl) (λ w serves short. omega arith) (none_made v (Ok outcome) (λ e same. cc))
 
 -- ---- whatever the call answered
@@ -157,8 +160,8 @@ module _ (was now : StoreSession) (kinds : List Class) (v : View) (sound : IsSou
   abbrev pub Opens : List Class → Outcome → Type 0
   Opens there outcome = open_refusal was.cursors asked ≡ None → (outcome ≡ outcome_of None) × (reply ≡ front ++ ok_line) × IsOpened there v asked old new was now
 
-  -- **OPEN keeps its promises,**
-  pub step_open : (result : Result Outcome StepFault) (later : List Class) → later ≡ kinds → CanChange v (memory_of old) → asks (known_in_memory (memory_of old)) piece ≡ ask.NoChange → AreCursors v.files old was → front ≡ []
+  -- **OPEN keeps its promises.**
+  pub step_open : (result : Result Outcome StepFault) (later : List Class) → later ≡ kinds → CanGoOn v was.views old was.tasks.items → asks (known_in_memory (memory_of old)) piece ≡ ask.NoChange → AreCursors v.files old was → front ≡ []
       → ((s : State) → IsStateOf (known_in_memory (memory_of old)) s → StepsTo s piece s [] Done × (front ≡ []) × SaysOne piece (λ statement. OpensCursor s statement asked))
       → IfOk result Refuses → IfOk result (Opens later) → IfErr result (λ fault. fault ≡ OutOfMemory) → StepPromises kinds piece v v old new was now reply result
   step_open (Err e) later same ready is are empty prepares refused opens memory =
@@ -172,12 +175,3 @@ module _ (was now : StoreSession) (kinds : List Class) (v : View) (sound : IsSou
           subst (λ (p : Parts). StepPromises kinds piece v v old p was now reply (Ok outcome)) (sym said.2)
           (subst (λ (n : StoreSession). StepPromises kinds piece v v old old was n reply (Ok outcome)) (sym said.3)
           (step_open_refused kinds v sound old piece front reply outcome ready is are empty asked r first prepares said.1 said.0))
-
-  -- **and leaves parts.**
-  pub open_parts : (result : Result Outcome StepFault) → IsOfParts old → IfOk result Refuses → IfOk result (Opens kinds) → OnOk result (IsOfParts new)
-  open_parts (Err e) of refused opens = tt
-  open_parts (Ok outcome) of refused opens = by (open_refusal was.cursors asked) refl
-    where
-      by : (o : Option Refusal) → open_refusal was.cursors asked ≡ o → IsOfParts new
-      by None first = (opens first).2.parts
-      by (Some r) first = subst IsOfParts (sym (refused r first).2) of

@@ -8,7 +8,7 @@ use Rattle.sasi_host.specs.View.{IsSound, View}
 use Rattle.sasi_layout.proofs.StatementLaws.{definitions_are}
 use Rattle.sasi_layout.specs.Layout.{Layout, state_of}
 use Rattle.sasi_layout.specs.Moves.{Move, after_moves}
-use Rattle.sasi_layout.specs.Serving.{CanChange, Serves, known_in_memory}
+use Rattle.sasi_layout.specs.Serving.{Serves, known_in_memory}
 use Rattle.sasi_layout.specs.Spent.{spent}
 use Rattle.sasi_layout.specs.Statements.{definitions_of}
 use Rattle.sasi_machine.specs.Outcome.{outcome_of}
@@ -36,14 +36,17 @@ use Rattle.sasi_tables.specs.TablesView.{memory_of}
 use Rattle.sasi_store.specs.Worlds.{PartsServe, World, piece_checks, rows_tail, selection_checks, steps, told_in}
 use Rattle.sasi_tables.specs.declared.parts.Parts.{Parts}
 use Rattle.sasi_store.specs.declared.session_state.SessionState.{SessionState as StoreSession}
-use Rattle.sasi_tables.proofs.ListedFrames.{same_stays}
 use Rattle.sasi_recheck.specs.Rows.{KnowsWhere}
 use Rattle.sasi_views.specs.Kept.{IsCounted}
 use Rattle.sasi_store.specs.Cursors.{AreCursors, AreCursorsOf, HasNamesOf, IsKept, Opened, views_out, views_told}
 use Rattle.sasi_store.specs.declared.session_state.OpenCursor.{OpenCursor}
 use Rattle.sasi_store.proofs.KeptCursors.{cursors_kept, cursors_still, keeps_same}
-use Rattle.sasi_store.proofs.PlainPieces.{plain_moves, plain_views, query_plain}
-use Rattle.sasi_store.proofs.SameFiles.{ready_same, serves_same}
+use Rattle.sasi_store.proofs.PlainPieces.{plain_moves, plain_tasks, plain_views, query_plain}
+use Rattle.sasi_store.proofs.SameFiles.{goes_on_same, same_held, serves_same, tasks_same}
+use Rattle.sasi_store.proofs.KeptTasks.{goes_on_views, held_recounted}
+use Rattle.sasi_tasks.specs.MakesTaskMoves.{CanGoOn}
+use Rattle.sasi_tasks.specs.Running.{AreTasksOf, KnowsTasks}
+use Rattle.sasi_tasks.specs.declared.running.RunningTask.{RunningTask}
 use Rattle.sasi_tables.proofs.MoveCauses.{any_change}
 use Rattle.sasi_store.proofs.Stepping.{moments_same, moves_are, needed_asked, state_is, turn_taken}
 
@@ -106,11 +109,11 @@ select_turns w piece rows was reply to says on reply_is =
     )
 
 module _ {was : StoreSession} (kinds : List Class) (a b : View) (sound : IsSound a) (old : Parts) (piece : Piece) (change : Changes Same a b) (is : asks (known_in_memory (memory_of old)) piece ≡ ask.NoChange) (query : IsQuery (read piece)) where
-  pub select_answered : {T : Type 0} {now : StoreSession} (x : T) (reply : List ℕ) → now.trace ≡ was.trace → now.cursors ≡ was.cursors → AreCursors a.files old was → IsCounted now.views (views_out was.cursors) → CanChange a (memory_of old) → ((w : World) → PartsServe a old was w → (was.trace ≡ (steps.after w piece).session.trace) × (steps.reply w piece ≡ reply))
+  pub select_answered : {T : Type 0} {now : StoreSession} (x : T) (reply : List ℕ) → now.trace ≡ was.trace → now.cursors ≡ was.cursors → now.tasks.items ≡ was.tasks.items → AreCursors a.files old was → IsCounted now.views (views_out was.cursors) → CanGoOn a was.views old was.tasks.items → ((w : World) → PartsServe a old was w → (was.trace ≡ (steps.after w piece).session.trace) × (steps.reply w piece ≡ reply))
       → ((s : State) → IsStateOf (known_in_memory (memory_of old)) s → ((step s piece).state ≡ s) × (Done ≡ outcome_of (step s piece).refused) × TurnsSession s piece (λ x. x) (λ x. cond x.trace CheckedTail NoTail))
       → ((w : World) → PartsServe a old was w → HasShortRows a.files w.layout (read piece) → b.reads ≤ a.reads + select_reads a.files w.layout (read piece))
       → StepCauses {T = T} a b (Ok x) → StepPromises kinds piece a b old old was now reply (Ok Done)
-  select_answered {now = now} x reply left cursors_stay are counted ready replied steps_to costs causes =
+  select_answered {now = now} x reply left cursors_stay tasks_stay are counted ready replied steps_to costs causes =
       let keeps = keeps_same a b was.views old change in
       let kept = cursors_kept a.files b.files old old was are keeps in
       record {
@@ -123,6 +126,9 @@ module _ {was : StoreSession} (kinds : List Class) (a b : View) (sound : IsSound
                 cursors_are = subst (λ (t : Turn). AreCursorsOf b.files old.maps now.cursors t.session) (sym (to.2.turn_is w.session))
                     (subst (λ (es : Opened). AreCursorsOf b.files old.maps es w.session) (sym cursors_stay) (cursors_still a.files b.files old old was are keeps w.session serves.cursors_are));
                 views_are = plain_views w piece (query_plain (read piece) query) ∙ serves.views_are ∙ ap views_told (sym cursors_stay);
+                tasks_are = subst (λ (ms : List Move). AreTasksOf b (after_moves ms w.layout) now.tasks.items (steps.after w piece).tasks) (sym (select_moves a old piece is query w serves.serves))
+                    (subst (λ (tasks : List RunningTask). AreTasksOf b w.layout tasks (steps.after w piece).tasks) (sym tasks_stay)
+                    (subst (AreTasksOf b w.layout was.tasks.items) (sym (plain_tasks w piece (query_plain (read piece) query))) (tasks_same a b change old w.layout was.tasks.items w.tasks ready.ready.each serves.tasks_are)));
               };
               reply_is = sym (replied w serves).1;
               outcome_is = to.1 ∙ ap (λ (t : Turn). outcome_of t.refused) (sym (to.2.turn_is w.session));
@@ -136,7 +142,8 @@ module _ {was : StoreSession} (kinds : List Class) (a b : View) (sound : IsSound
               outcome_is = to.1 ∙ ap (λ (t : Turn). outcome_of t.refused) (sym (to.2.turn_is x));
               reply_is = λ other. absurd (other (inl query, turn_taken x s piece _ _ to.2 to.1));
             };
-        ready = ready_same a b change (memory_of old) ready;
+        ready = subst (λ (tasks : List RunningTask). CanGoOn b now.views old tasks) (sym tasks_stay)
+            (goes_on_views b old was.tasks.items was.views now.views (held_recounted was.views now.views (views_out was.cursors) are.counted counted) (goes_on_same a b change old was.views was.tasks.items ready));
         cursors = record {
           counted = subst (λ (es : Opened). IsCounted now.views (views_out es)) (sym cursors_stay) counted;
           kept = subst (AllByRecursion (λ (e : List ℕ × OpenCursor). IsKept b.files old e.1)) (sym cursors_stay) kept.kept;
@@ -144,17 +151,20 @@ module _ {was : StoreSession} (kinds : List Class) (a b : View) (sound : IsSound
         };
         any_moment = moments_same a b sound old piece change;
         spent_is = tt;
-        classes = λ known. record { tables = known.tables; cursors = subst (AllByRecursion (λ (e : List ℕ × OpenCursor). KnowsWhere kinds e.1.rows.reader.rows.filter)) (sym cursors_stay) known.cursors };
+        classes = λ known. record {
+          tables = known.tables;
+          cursors = subst (AllByRecursion (λ (e : List ℕ × OpenCursor). KnowsWhere kinds e.1.rows.reader.rows.filter)) (sym cursors_stay) known.cursors;
+          tasks = subst (KnowsTasks kinds) (sym tasks_stay) known.tasks;
+        };
         needed = needed_asked kinds (asks (known_in_memory (memory_of old)) piece) ask.NoChange is tt;
         needed_first = tt;
         missing = tt;
         damaged = λ folder files. tt;
         undamaged = λ w serves. tt;
-        reads_only = λ none. change;
+        reads_only = λ none other. change;
         unread = λ other. absurd (other (inl query));
         reads = costs;
         changes = any_change Same a b change;
-        files_stay = same_stays old.manifest.listing a b change;
-        listed_stay = λ table f has. has;
+        held_stay = same_held a b change now.views;
         causes = record { disk = causes.disk; out = causes.out; ok = causes.ok; failed = tt; others = tt };
       }

@@ -2,7 +2,6 @@
 use Rattle.std.proofs.Common.{◌≡◌, ◌≢◌, ◌+◌, ◌≤◌, ◌++◌, ◌∷◌, Bool, ℕ, List, [], length, map, IsSome, Option, None, Some, Ok, Err, refl, sym, ap, subst, ◌∙◌, inl, inr, arith}
 use Rattle.std.proofs.lemmas.List.{append-nil}
 use Rattle.std.specs.List.{AllByRecursion}
-use Rattle.sasi_folder.specs.Damages.{FolderShows}
 use Rattle.sasi_host.proofs.ChangeLaws.{at_each_moment, stays}
 use Rattle.sasi_host.specs.declared.damage.Damage.{Damage}
 use Rattle.sasi_host.specs.Disk.{Changes, Same}
@@ -14,7 +13,7 @@ use Rattle.sasi_layout.specs.Between.{Between}
 use Rattle.sasi_layout.specs.Classes.{HasNeeded, KnowsClasses, LacksNeeded}
 use Rattle.sasi_layout.specs.Layout.{Layout, bare, state_of}
 use Rattle.sasi_layout.specs.Moves.{Move, after_moves}
-use Rattle.sasi_layout.specs.Serving.{CanChange, Serves, StoreInMemory, known_in_memory}
+use Rattle.sasi_layout.specs.Serving.{Serves, StoreInMemory, known_in_memory}
 use Rattle.sasi_layout.specs.Shape.{HasShape}
 use Rattle.sasi_layout.specs.Spent.{spent}
 use Rattle.sasi_layout.specs.Statements.{moves_asked, moves_of}
@@ -40,7 +39,7 @@ use Rattle.sasi_model.specs.Parsers.{grammar_parser}
 use Rattle.sasi_model.specs.Sessions.{NoTail, SessionState, Tail, Turn, refused_by, refused_turn, tail_bytes, turn_by}
 use Rattle.sasi_model.specs.State.{Definition, State, max_timestamp}
 use Rattle.sasi_model.specs.Step.{step}
-use Rattle.sasi_store.specs.Answers.{AnsweredButRows, Answered, ReadsRows}
+use Rattle.sasi_store.specs.Answers.{AnsweredButRows, Answered, ReadsFiles}
 use Rattle.sasi_tables.specs.Faults.{OnMissing, OnSpent, OnStepDamage, fault_of_kit, StepCauses}
 use Rattle.sasi_tables.proofs.KnownClasses.{no_table_lacks}
 use Rattle.sasi_store.specs.Steps.{StepPromises}
@@ -50,20 +49,23 @@ use Rattle.sasi_tables.specs.declared.fault.StepFault.{StepFault}
 use Rattle.sasi_tables.specs.declared.fault.StepFault.TheVariants as fault
 use Rattle.sasi_tables.specs.declared.parts.Parts.{Parts}
 use Rattle.sasi_store.specs.declared.session_state.SessionState.{SessionState as StoreSession}
-use Rattle.sasi_tables.proofs.ListedFrames.{same_stays}
 use Rattle.sasi_cursors.proofs.Agreement.{agree_names}
 use Rattle.sasi_cursors.specs.Agreement.{Agrees}
 use Rattle.sasi_model.specs.Sessions as model
 use Rattle.sasi_recheck.specs.Rows.{KnowsWhere}
 use Rattle.sasi_views.specs.Books.{Book}
+use Rattle.sasi_tasks.specs.MakesTaskMoves.{CanGoOn}
+use Rattle.sasi_tasks.specs.Running.{AreTasksOf, KnowsTasks}
+use Rattle.sasi_tasks.specs.declared.running.RunningTask.{RunningTask}
 use Rattle.sasi_views.specs.Kept.{IsCounted}
 use Rattle.sasi_store.specs.Cursors.{AreCursors, AreCursorsOf, GivesRows, HasNamesOf, IsKept, Opened, views_out, views_told}
+use Rattle.sasi_store.specs.HeldDamage.{StepShows}
 use Rattle.sasi_store.specs.StoreView.{KnowsAll}
 use Rattle.sasi_store.specs.declared.session_state.OpenCursor.{OpenCursor}
-use Rattle.sasi_store.proofs.PlainPieces.{IsPlain, plain_moves, plain_views, refused_moves, refused_views, says_plain}
+use Rattle.sasi_store.proofs.PlainPieces.{IsPlain, plain_moves, plain_tasks, plain_views, refused_moves, refused_tasks, refused_views, says_plain}
 use Rattle.sasi_tables.proofs.MoveCauses.{any_change, none_made}
-use Rattle.sasi_tables.specs.Frames.{KeepsFilesOf}
 use Rattle.sasi_store.specs.Selects.{HasShortRows, select_reads}
+use Rattle.sasi_store.proofs.SameFiles.{same_held}
 
 -- ---- a world and its state
 
@@ -155,7 +157,7 @@ moments_same a b sound old piece change w serves =
 -- nothing was done: memory ran out, or the analyzer of a new index is missing
 step_not_made : {new : Parts} {was now : StoreSession} (kinds : List Class) (v : View) (sound : IsSound v) (old : Parts) (piece : Piece) (reply : List ℕ) (e : StepFault) → e ≢ fault.Failed
     → OnSpent (λ _. ⊥) e → OnStepDamage (λ _. ⊥) e → OnMissing (LacksNeeded kinds (asks (known_in_memory (memory_of old)) piece)) e → StepPromises kinds piece v v old new was now reply (Err e)
-step_not_made kinds v sound old piece reply e other unspent undamaged missing = record {
+step_not_made {was = was} {now = now} kinds v sound old piece reply e other unspent undamaged missing = record {
   answers = tt;
   everywhere = tt;
   ready = tt;
@@ -166,14 +168,13 @@ step_not_made kinds v sound old piece reply e other unspent undamaged missing = 
   needed = tt;
   needed_first = by_spent (λ _. ⊥) _ (λ kind none. absurd none) e unspent;
   missing = missing;
-  damaged = λ folder files. by_damage (λ _. ⊥) (FolderShows folder) (λ damage none. absurd none) e undamaged;
+  damaged = λ folder files. by_damage (λ _. ⊥) (StepShows was.views folder) (λ damage none. absurd none) e undamaged;
   undamaged = λ w serves. undamaged;
-  reads_only = λ none. stays v;
+  reads_only = λ none other. stays v;
   unread = λ other. refl;
   reads = λ w serves short. omega arith;
   changes = any_change Same v v (stays v);
-  files_stay = same_stays old.manifest.listing v v (stays v);
-  listed_stay = tt;
+  held_stay = same_held v v (stays v) now.views;
   causes = none_made v (Err e) (λ f is same. (let one : e ≡ f = cc in other (one_then one same)));
 }
   where
@@ -206,6 +207,7 @@ pub record IsQuiet (v : View) (old : Parts) (now : StoreSession) (w : World) (pi
   pub trace_is : now.trace ≡ (steps.after w piece).session.trace
   pub cursors_are : AreCursorsOf v.files old.maps now.cursors (steps.after w piece).session
   pub views_are : (steps.after w piece).views ≡ views_told now.cursors
+  pub tasks_are : AreTasksOf v w.layout now.tasks.items (steps.after w piece).tasks
   pub reply_is : steps.reply w piece ≡ reply
 
 -- the names of the cursors are those of the session
@@ -213,12 +215,12 @@ pub names_of_world : (v : View) (old : Parts) (was : StoreSession) (w : World) �
 names_of_world v old was w serves = agree_names (λ (x : model.Cursor). x.name) (GivesRows v.files old.maps) was.cursors w.session.cursors serves.cursors_are
 
 -- it is answered without a move
-pub step_quiet : {was now : StoreSession} (kinds : List Class) (v : View) (sound : IsSound v) (old : Parts) (piece : Piece) (reply : List ℕ) (outcome : Outcome) → CanChange v (memory_of old) → asks (known_in_memory (memory_of old)) piece ≡ ask.NoChange
+pub step_quiet : {was now : StoreSession} (kinds : List Class) (v : View) (sound : IsSound v) (old : Parts) (piece : Piece) (reply : List ℕ) (outcome : Outcome) → CanGoOn v now.views old now.tasks.items → asks (known_in_memory (memory_of old)) piece ≡ ask.NoChange
     → AreCursors v.files old now → (KnowsAll kinds old was → KnowsAll kinds old now)
     → ((x : SessionState) (s : State) → HasNamesOf was.cursors x → IsStateOf (known_in_memory (memory_of old)) s → AnsweredButRows old now x s piece reply outcome)
     → ((w : World) → PartsServe v old was w → IsQuiet v old now w piece reply)
     → StepPromises kinds piece v v old old was now reply (Ok outcome)
-step_quiet {was} kinds v sound old piece reply outcome ready is are classes everywhere turns = record {
+step_quiet {was} {now} kinds v sound old piece reply outcome ready is are classes everywhere turns = record {
   answers = λ w serves.
       let turned = turns w serves in
       let none = turned.moves_are ∙ moves_are v (memory_of old) piece ask.NoChange is w.layout serves.serves in
@@ -229,6 +231,7 @@ step_quiet {was} kinds v sound old piece reply outcome ready is are classes ever
           trace_is = turned.trace_is;
           cursors_are = turned.cursors_are;
           views_are = turned.views_are;
+          tasks_are = subst (λ (ms : List Move). AreTasksOf v (after_moves ms w.layout) now.tasks.items (steps.after w piece).tasks) (sym none) turned.tasks_are;
         };
         reply_is = sym turned.reply_is;
         outcome_is = here.outcome_is;
@@ -245,40 +248,44 @@ step_quiet {was} kinds v sound old piece reply outcome ready is are classes ever
   missing = tt;
   damaged = λ folder files. tt;
   undamaged = λ w serves. tt;
-  reads_only = λ none. stays v;
+  reads_only = λ none other. stays v;
   unread = λ other. refl;
   reads = λ w serves short. omega arith;
   changes = any_change Same v v (stays v);
-  files_stay = same_stays old.manifest.listing v v (stays v);
-  listed_stay = λ table f has. has;
+  held_stay = same_held v v (stays v) now.views;
   causes = none_made v (Ok outcome) (λ e same. cc);
 }
 
--- it leaves the moves of the layout, and the files that are held
+-- it leaves the moves of the layout, the files that are held, and the tasks
 abbrev IsUnmoved : World → Piece → Type 0
-IsUnmoved w piece = (steps.moves w piece ≡ moves_of w.layout piece) × ((steps.after w piece).views ≡ w.views)
+IsUnmoved w piece = (steps.moves w piece ≡ moves_of w.layout piece) × ((steps.after w piece).views ≡ w.views) × ((steps.after w piece).tasks ≡ w.tasks)
 
 unmoved_plain : (w : World) (piece : Piece) → IsPlain (read piece) → IsUnmoved w piece
-unmoved_plain w piece plain = (plain_moves w piece plain, plain_views w piece plain)
+unmoved_plain w piece plain = (plain_moves w piece plain, plain_views w piece plain, plain_tasks w piece plain)
 
 unmoved_refused : (w : World) (piece : Piece) (r : Refusal) → refused_by grammar_parser w.session (state_of w.layout) piece ≡ Some r → IsUnmoved w piece
-unmoved_refused w piece r is = (refused_moves w piece r is, refused_views w piece r is)
+unmoved_refused w piece r is = (refused_moves w piece r is, refused_views w piece r is, refused_tasks w piece r is)
 
 -- and its whole reply was known; `f` is what it makes of each session, and it leaves the cursors
-step_still : {was now : StoreSession} (kinds : List Class) (v : View) (sound : IsSound v) (old : Parts) (piece : Piece) (reply : List ℕ) (outcome : Outcome) (f : SessionState → SessionState) → CanChange v (memory_of old) → asks (known_in_memory (memory_of old)) piece ≡ ask.NoChange
-    → AreCursors v.files old was → now.views ≡ was.views → now.cursors ≡ was.cursors
+step_still : {was now : StoreSession} (kinds : List Class) (v : View) (sound : IsSound v) (old : Parts) (piece : Piece) (reply : List ℕ) (outcome : Outcome) (f : SessionState → SessionState) → CanGoOn v was.views old was.tasks.items → asks (known_in_memory (memory_of old)) piece ≡ ask.NoChange
+    → AreCursors v.files old was → now.views ≡ was.views → now.cursors ≡ was.cursors → now.tasks.items ≡ was.tasks.items
     → ((s : State) → IsStateOf (known_in_memory (memory_of old)) s → (step s piece).state ≡ s) → ((x : SessionState) → (f x).cursors ≡ x.cursors) → ((x : SessionState) → was.trace ≡ x.trace → now.trace ≡ (f x).trace)
     → ((w : World) → PartsServe v old was w → IsUnmoved w piece)
     → ((x : SessionState) (s : State) → HasNamesOf was.cursors x → IsStateOf (known_in_memory (memory_of old)) s → Turns x s piece (f x) reply outcome)
     → StepPromises kinds piece v v old old was now reply (Ok outcome)
-step_still {was} {now} kinds v sound old piece reply outcome f ready is are views_stay cursors_stay stays_in leaves on unmoved turns =
-    step_quiet {was = was} {now = now} kinds v sound old piece reply outcome ready is
+step_still {was} {now} kinds v sound old piece reply outcome f ready is are views_stay cursors_stay tasks_stay stays_in leaves on unmoved turns =
+    step_quiet {was = was} {now = now} kinds v sound old piece reply outcome
+    (subst (λ (tasks : List RunningTask). CanGoOn v now.views old tasks) (sym tasks_stay) (subst (λ (book : Book). CanGoOn v book old was.tasks.items) (sym views_stay) ready)) is
     (record {
       counted = subst (λ (book : Book). IsCounted book (views_out now.cursors)) (sym views_stay) (subst (λ (es : Opened). IsCounted was.views (views_out es)) (sym cursors_stay) are.counted);
       kept = subst (AllByRecursion (λ (e : List ℕ × OpenCursor). IsKept v.files old e.1)) (sym cursors_stay) are.kept;
       few = subst (λ (es : Opened). length es ≤ 64) (sym cursors_stay) are.few;
     })
-    (λ known. record { tables = known.tables; cursors = subst (AllByRecursion (λ (e : List ℕ × OpenCursor). KnowsWhere kinds e.1.rows.reader.rows.filter)) (sym cursors_stay) known.cursors })
+    (λ known. record {
+      tables = known.tables;
+      cursors = subst (AllByRecursion (λ (e : List ℕ × OpenCursor). KnowsWhere kinds e.1.rows.reader.rows.filter)) (sym cursors_stay) known.cursors;
+      tasks = subst (KnowsTasks kinds) (sym tasks_stay) known.tasks;
+    })
     (λ x s named of.
     answered_as old now x (f x) s piece reply outcome (turns x s named of)
     (ap (λ (es : Opened). map (λ (e : List ℕ × OpenCursor). e.0) es) cursors_stay ∙ named ∙ ap (λ (xs : List model.Cursor). map (λ (c : model.Cursor). c.name) xs) (sym (leaves x)))
@@ -293,6 +300,7 @@ step_still {was} {now} kinds v sound old piece reply outcome f ready is are view
           (subst (λ (es : Opened). Agrees (λ (x : model.Cursor). x.name) (GivesRows v.files old.maps) es (f w.session).cursors) (sym cursors_stay)
           (subst (Agrees (λ (x : model.Cursor). x.name) (GivesRows v.files old.maps) was.cursors) (sym (leaves w.session)) serves.cursors_are));
       views_are = still.1 ∙ serves.views_are ∙ ap views_told (sym cursors_stay);
+      tasks_are = subst (λ (tasks : List RunningTask). AreTasksOf v w.layout tasks (steps.after w piece).tasks) (sym tasks_stay) (subst (AreTasksOf v w.layout was.tasks.items) (sym still.2) serves.tasks_are);
       reply_is = reply_turned w piece (f w.session) reply outcome turned;
     })
 
@@ -306,19 +314,19 @@ unmoved_answered w piece leaves (inl some) = by (step (state_of w.layout) piece)
 unmoved_answered w piece leaves (inr empty) = unmoved_plain w piece (subst IsPlain (sym empty) tt)
 
 -- a piece that is refused, or has no reply, leaves the session,
-pub step_answered : {was : StoreSession} (kinds : List Class) (v : View) (sound : IsSound v) (old : Parts) (piece : Piece) (reply : List ℕ) (outcome : Outcome) → CanChange v (memory_of old) → asks (known_in_memory (memory_of old)) piece ≡ ask.NoChange → AreCursors v.files old was
+pub step_answered : {was : StoreSession} (kinds : List Class) (v : View) (sound : IsSound v) (old : Parts) (piece : Piece) (reply : List ℕ) (outcome : Outcome) → CanGoOn v was.views old was.tasks.items → asks (known_in_memory (memory_of old)) piece ≡ ask.NoChange → AreCursors v.files old was
     → ((s : State) → IsStateOf (known_in_memory (memory_of old)) s → StepsTo s piece s reply outcome × IsRefusedOrEmpty s piece) → StepPromises kinds piece v v old old was was reply (Ok outcome)
 step_answered kinds v sound old piece reply outcome ready is are prepares =
-    step_still kinds v sound old piece reply outcome (λ x. x) ready is are refl refl (λ s of. (prepares s of).0.state_is) (λ x. refl) (λ x on. on)
+    step_still kinds v sound old piece reply outcome (λ x. x) ready is are refl refl refl (λ s of. (prepares s of).0.state_is) (λ x. refl) (λ x on. on)
     (λ w serves. let prepared = prepares (state_of w.layout) (state_is v (memory_of old) w.layout serves.serves) in unmoved_answered w piece (refused_leaves (state_of w.layout) piece prepared.1) prepared.1)
     (λ x s named of. let prepared = prepares s of in turns_plainly x s s piece reply outcome (λ y. y) (refused_leaves s piece prepared.1) prepared.0)
 
 -- TRACE turns it on or off,
-pub step_traced : {was now : StoreSession} (kinds : List Class) (v : View) (sound : IsSound v) (old : Parts) (piece : Piece) (reply : List ℕ) (on : Bool) → now.trace ≡ on → now.views ≡ was.views → now.cursors ≡ was.cursors → CanChange v (memory_of old)
+pub step_traced : {was now : StoreSession} (kinds : List Class) (v : View) (sound : IsSound v) (old : Parts) (piece : Piece) (reply : List ℕ) (on : Bool) → now.trace ≡ on → now.views ≡ was.views → now.cursors ≡ was.cursors → now.tasks.items ≡ was.tasks.items → CanGoOn v was.views old was.tasks.items
     → asks (known_in_memory (memory_of old)) piece ≡ ask.NoChange → AreCursors v.files old was
     → ((s : State) → IsStateOf (known_in_memory (memory_of old)) s → StepsTo s piece s reply Done × SaysOne piece (λ statement. TurnsTrace s statement on)) → StepPromises kinds piece v v old old was now reply (Ok Done)
-step_traced kinds v sound old piece reply on turned views_stay cursors_stay ready is are prepares =
-    step_still kinds v sound old piece reply Done (λ x. record x { trace = on }) ready is are views_stay cursors_stay (λ s of. (prepares s of).0.state_is) (λ x. refl) (λ x before. turned)
+step_traced kinds v sound old piece reply on turned views_stay cursors_stay tasks_stay ready is are prepares =
+    step_still kinds v sound old piece reply Done (λ x. record x { trace = on }) ready is are views_stay cursors_stay tasks_stay (λ s of. (prepares s of).0.state_is) (λ x. refl) (λ x before. turned)
     (λ w serves. unmoved_plain w piece (says_plain piece (λ statement. TurnsTrace (state_of w.layout) statement on) (plain (state_of w.layout)) (prepares (state_of w.layout) (state_is v (memory_of old) w.layout serves.serves)).1))
     (λ x s named of. let prepared = prepares s of in turns_plainly x s s piece reply Done (λ y. record y { trace = on }) (traced_turns s piece on prepared.1) prepared.0)
   where
@@ -327,12 +335,12 @@ step_traced kinds v sound old piece reply on turned views_stay cursors_stay read
     plain s statement is = absurd is
 
 -- and one that a rule of cursors refuses leaves it.
-pub step_ruled : {was : StoreSession} (kinds : List Class) (v : View) (sound : IsSound v) (old : Parts) (piece : Piece) (reply : List ℕ) (outcome : Outcome) (r : Refusal) → CanChange v (memory_of old) → asks (known_in_memory (memory_of old)) piece ≡ ask.NoChange → AreCursors v.files old was
+pub step_ruled : {was : StoreSession} (kinds : List Class) (v : View) (sound : IsSound v) (old : Parts) (piece : Piece) (reply : List ℕ) (outcome : Outcome) (r : Refusal) → CanGoOn v was.views old was.tasks.items → asks (known_in_memory (memory_of old)) piece ≡ ask.NoChange → AreCursors v.files old was
     → reply ≡ refusal_line r → outcome ≡ outcome_of (Some r) → ((s : State) → IsStateOf (known_in_memory (memory_of old)) s → (step s piece).state ≡ s)
     → ((x : SessionState) (s : State) → HasNamesOf was.cursors x → IsStateOf (known_in_memory (memory_of old)) s → turn_by grammar_parser x s piece ≡ refused_turn x r)
     → StepPromises kinds piece v v old old was was reply (Ok outcome)
 step_ruled {was} kinds v sound old piece reply outcome r ready is are reply_is outcome_is stays_in turned =
-    step_still kinds v sound old piece reply outcome (λ x. x) ready is are refl refl stays_in (λ x. refl) (λ x on. on)
+    step_still kinds v sound old piece reply outcome (λ x. x) ready is are refl refl refl stays_in (λ x. refl) (λ x on. on)
     (λ w serves. unmoved_refused w piece r (ap (λ (t : Turn). t.refused) (turned w.session (state_of w.layout) (names_of_world v old was w serves) (state_is v (memory_of old) w.layout serves.serves))))
     (λ x s named of. record {
       refused = Some r;
@@ -354,10 +362,10 @@ turn_taken x s piece f tail turned done = ap (λ (t : Turn). t.refused) (turned.
 pub step_taken : {was now : StoreSession} (kinds : List Class) (a b : View) (sound : IsSound a) (old new : Parts) (piece : Piece) (reply : List ℕ) (outcome : Outcome) → Changes Same a b → asks (known_in_memory (memory_of old)) piece ≡ ask.NoChange
     → ((w : World) → PartsServe a old was w → Answered b new now w piece reply outcome)
     → ((x : SessionState) (s : State) → HasNamesOf was.cursors x → IsStateOf (known_in_memory (memory_of old)) s → AnsweredButRows new now x s piece reply outcome)
-    → CanChange b (memory_of new) → AreCursors b.files new now → (KnowsAll kinds old was → KnowsAll kinds new now) → KeepsFilesOf old.manifest.listing new.manifest.listing
-    → ((ReadsRows (read piece) → ⊥) → b.reads ≡ a.reads) → ((w : World) → PartsServe a old was w → HasShortRows a.files w.layout (read piece) → b.reads ≤ a.reads + select_reads a.files w.layout (read piece))
+    → CanGoOn b now.views new now.tasks.items → AreCursors b.files new now → (KnowsAll kinds old was → KnowsAll kinds new now)
+    → ((ReadsFiles (read piece) → ⊥) → b.reads ≡ a.reads) → ((w : World) → PartsServe a old was w → HasShortRows a.files w.layout (read piece) → b.reads ≤ a.reads + select_reads a.files w.layout (read piece))
     → StepCauses a b (Ok outcome) → StepPromises kinds piece a b old new was now reply (Ok outcome)
-step_taken kinds a b sound old new piece reply outcome change is answers everywhere ready are classes listed unread costs causes = record {
+step_taken {now = now} kinds a b sound old new piece reply outcome change is answers everywhere ready are classes unread costs causes = record {
   answers = answers;
   everywhere = everywhere;
   ready = ready;
@@ -370,21 +378,20 @@ step_taken kinds a b sound old new piece reply outcome change is answers everywh
   missing = tt;
   damaged = λ folder files. tt;
   undamaged = λ w serves. tt;
-  reads_only = λ none. change;
+  reads_only = λ none other. change;
   unread = unread;
   reads = costs;
   changes = any_change Same a b change;
-  files_stay = same_stays old.manifest.listing a b change;
-  listed_stay = listed;
+  held_stay = same_held a b change now.views;
   causes = causes;
 }
 
 -- a SELECT or a FETCH that fails
-pub read_failed : {T : Type 0} {was now : StoreSession} (kinds : List Class) (a b : View) (sound : IsSound a) (old : Parts) (piece : Piece) (reply : List ℕ) (e : StepFault) → Changes Same a b → ReadsRows (read piece)
-    → ((folder : Folder) → b.files ≡ Some folder → OnStepDamage (FolderShows folder) e) → ((w : World) → PartsServe a old was w → OnStepDamage (λ _. ⊥) e) → OnSpent (λ _. ⊥) e → OnMissing (λ _. ⊥) e
+pub read_failed : {T : Type 0} {was now : StoreSession} (kinds : List Class) (a b : View) (sound : IsSound a) (old : Parts) (piece : Piece) (reply : List ℕ) (e : StepFault) → Changes Same a b → ReadsFiles (read piece)
+    → ((folder : Folder) → b.files ≡ Some folder → OnStepDamage (StepShows was.views folder) e) → ((w : World) → PartsServe a old was w → OnStepDamage (λ _. ⊥) e) → OnSpent (λ _. ⊥) e → OnMissing (λ _. ⊥) e
     → ((w : World) → PartsServe a old was w → HasShortRows a.files w.layout (read piece) → b.reads ≤ a.reads + select_reads a.files w.layout (read piece))
     → StepCauses {T = T} a b (Err e) → StepPromises kinds piece a b old old was now reply (Err e)
-read_failed kinds a b sound old piece reply e change reading damaged undamaged unspent present costs causes = record {
+read_failed {now = now} kinds a b sound old piece reply e change reading damaged undamaged unspent present costs causes = record {
   answers = tt;
   everywhere = tt;
   ready = tt;
@@ -397,11 +404,10 @@ read_failed kinds a b sound old piece reply e change reading damaged undamaged u
   missing = never_missing _ e present;
   damaged = damaged;
   undamaged = undamaged;
-  reads_only = λ none. change;
+  reads_only = λ none other. change;
   unread = λ other. absurd (other reading);
   reads = costs;
   changes = any_change Same a b change;
-  files_stay = same_stays old.manifest.listing a b change;
-  listed_stay = tt;
+  held_stay = same_held a b change now.views;
   causes = record { disk = causes.disk; out = causes.out; ok = tt; failed = causes.failed; others = causes.others };
 }

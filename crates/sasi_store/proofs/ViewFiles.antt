@@ -2,6 +2,7 @@
 use Rattle.std.proofs.Common.{◌≡◌, ◌≢◌, ℕ, zero, suc, ◌+◌, ◌-◌, ◌<◌, ◌≤◌, ◌||◌, Bool, true, false, if◌then◌else◌, nat_eq, List, [], ◌∷◌, ◌++◌, map, slice_get, Option, None, Some, refl, sym, ap, subst, ◌∙◌, arith}
 use Rattle.std.proofs.lemmas.Bool.Decides.{nat_tests}
 use Rattle.std.proofs.lemmas.Bool.{or_left, or_right}
+use Rattle.std.specs.Prelude.{Contains}
 use Rattle.std.specs.List.{AllByRecursion, list_any}
 use Rattle.std.specs.Option.{option_map_or}
 use Rattle.sasi_host.specs.declared.name.FileName.{FileName}
@@ -15,17 +16,16 @@ use Rattle.sasi_manifest.specs.Edits.{files_of}
 use Rattle.sasi_manifest.specs.FileNames.{has_name}
 use Rattle.sasi_manifest.specs.ListedDefinition.{ListedDefinition}
 use Rattle.sasi_manifest.specs.ListedFiles.{FitParts, IndexesRise, index_name, is_name_of}
-use Rattle.sasi_layout.proofs.FileNameLaws.{has_name_by, have_name}
+use Rattle.sasi_layout.proofs.FileNameLaws.{has_name_by, have_name, name_itself}
 use Rattle.sasi_layout.proofs.KeptLaws.{kept_there}
 use Rattle.sasi_layout.specs.Kept.{Kept, has_segment, is_kept}
 use Rattle.sasi_layout.specs.Serving.{CanChange, kept_by}
 use Rattle.sasi_views.specs.declared.component.Component.{Component}
 use Rattle.sasi_views.specs.declared.component.Component.TheVariants.{File, Map}
 use Rattle.sasi_views.specs.Components.{lists, same}
-use Rattle.sasi_views.specs.declared.part.Part as view
-use Rattle.sasi_views.specs.declared.part.Part.TheVariants as view_part
 use Rattle.sasi_views.specs.Parts.{ListsOnce, components_of, part_components}
 use Rattle.sasi_engine.specs.Plans.{is_file_of}
+use Rattle.sasi_tables.proofs.ListedFrames.{file_named}
 use Rattle.sasi_tables.specs.TablesView.{memory_of}
 use Rattle.sasi_tables.specs.ViewParts.{current_parts, file_part, listed_parts, table_numbers}
 use Rattle.sasi_tables.specs.Held.{Rise, numbers_of}
@@ -39,7 +39,7 @@ use Rattle.sasi_tables.specs.declared.parts.Parts.{Parts}
 -- ---- the files of a table
 
 -- what the files of each table have
-files_have : (P : List ListedFile → Type 0) → P [] → (ts : List ListedDefinition) (at : ℕ) → AllByRecursion (λ (t : ListedDefinition). P t.files) ts → P (option_map_or (λ t. t.files) (slice_get ts at) [])
+pub files_have : (P : List ListedFile → Type 0) → P [] → (ts : List ListedDefinition) (at : ℕ) → AllByRecursion (λ (t : ListedDefinition). P t.files) ts → P (option_map_or (λ t. t.files) (slice_get ts at) [])
 files_have P none [] at all = none
 files_have P none (t ∷ ts) zero all = all.0
 files_have P none (t ∷ ts) (suc at) all = files_have P none ts at all.1
@@ -49,6 +49,15 @@ pub name_listed : (ts : List ListedDefinition) (at : ℕ) (name : FileName) → 
 name_listed [] at name is = is
 name_listed (t ∷ ts) zero name is = or_left (have_name t.files name) (list_any (λ t. have_name t.files name) ts) is
 name_listed (t ∷ ts) (suc at) name is = or_right (have_name t.files name) (list_any (λ t. have_name t.files name) ts) (name_listed ts at name is)
+
+-- what a file of one of them is called, it is called
+pub table_names : (ts : List ListedDefinition) (at : ℕ) (t : ListedDefinition) → slice_get ts at ≡ Some t → (f : ListedFile) → Contains t.files f → (name : FileName) → is_name_of f name ≡ true → has_name ts name ≡ true
+table_names ts at t there f has name named =
+    has_name_by name ts ∙ name_listed ts at name (ap (λ (o : Option ListedDefinition). have_name (option_map_or (λ (u : ListedDefinition). u.files) o []) name) there ∙ file_named name t.files f has named)
+
+-- as its data file is
+pub table_lists : (ts : List ListedDefinition) (at : ℕ) (t : ListedDefinition) → slice_get ts at ≡ Some t → (f : ListedFile) → Contains t.files f → has_name ts (data_name f.number) ≡ true
+table_lists ts at t there f has = table_names ts at t there f has (data_name f.number) (ap (λ b. b || list_any (name_eq (data_name f.number)) (map (index_name f.number) f.parts)) (name_itself (data_name f.number)))
 
 -- and is kept
 pub listed_kept : (k : Kept) (name : FileName) → has_name k.listing.tables name ≡ true → is_kept k name ≡ true
@@ -228,7 +237,7 @@ module _ (v : View) (p : Parts) (ready : CanChange v (memory_of p)) (number : �
 
   -- **they are there,**
   pub view_there : (name : FileName) → is_file_of (current_parts p number) name ≡ true → IsThere v name
-  view_there name is = kept_there v (kept_by (memory_of p)) name ready.kept (listed_kept (kept_by (memory_of p)) name (view_listed name is))
+  view_there name is = kept_there v ready.aside (kept_by (memory_of p)) name ready.exactly (listed_kept (kept_by (memory_of p)) name (view_listed name is))
 
   -- **and none of them is listed twice.**
   pub view_once : IsOfParts p → ListsOnce (current_parts p number)

@@ -1,5 +1,5 @@
 -- What a step answers, for each world that the store serves.
-use Rattle.std.specs.Prelude.{◌≡◌, ◌⊎◌, ⊤, ℕ, List, None, IsSome}
+use Rattle.std.specs.Prelude.{◌≡◌, ◌⊎◌, ⊤, ℕ, List, None, Some, IsSome}
 use Rattle.sasi_host.specs.View.{View}
 use Rattle.sasi_layout.specs.Layout.{state_of}
 use Rattle.sasi_layout.specs.Serving.{known_in_memory}
@@ -13,9 +13,12 @@ use Rattle.sasi_model.specs.Refusals.{Nothing, ParsedPiece, Says, read, read_by}
 use Rattle.sasi_model.specs.Sessions.{SessionState, refused_by, session_by, turn_by}
 use Rattle.sasi_model.specs.State.{State}
 use Rattle.sasi_model.specs.Step.{step}
-use Rattle.sasi_types.specs.declared.statement.Statement.TheVariants.{CloseCursor, Fetch, OpenCursor, ShowFiles, Trace}
+use Rattle.sasi_types.specs.declared.statement.Statement.TheVariants.{BeginCompact, CloseCursor, Compact, Fetch, OpenCursor, ShowFiles, StepCompact, Trace}
 use Rattle.sasi_tables.specs.TablesView.{memory_of}
+use Rattle.sasi_cursors.specs.Cursors.{cursor_of}
+use Rattle.sasi_store.specs.CursorCalls.{HasAllListed}
 use Rattle.sasi_store.specs.Cursors.{HasNamesOf}
+use Rattle.sasi_store.specs.declared.session_state.OpenCursor.{OpenCursor as AnOpenCursor}
 use Rattle.sasi_store.specs.Worlds.{PartsServe, World, steps}
 use Rattle.sasi_tables.specs.declared.parts.Parts.{Parts}
 use Rattle.sasi_store.specs.declared.session_state.SessionState.{SessionState as StoreSession}
@@ -32,9 +35,20 @@ abbrev pub IsFetch : ParsedPiece → Type 0
 IsFetch (Says (Fetch cursor count)) = ⊤
 IsFetch parsed = ⊥
 
--- a SELECT or a FETCH, which reads files
-abbrev pub ReadsRows : ParsedPiece → Type 0
-ReadsRows parsed = IsQuery parsed ⊎ IsFetch parsed
+-- COMPACT or STEP COMPACT, which does units
+abbrev pub DoesUnits : ParsedPiece → Type 0
+DoesUnits (Says (Compact table)) = ⊤
+DoesUnits (Says (StepCompact table units)) = ⊤
+DoesUnits parsed = ⊥
+
+-- a SELECT, a FETCH, or one that does units, which reads files
+abbrev pub ReadsFiles : ParsedPiece → Type 0
+ReadsFiles parsed = IsQuery parsed ⊎ IsFetch parsed ⊎ DoesUnits parsed
+
+-- a CLOSE, which deletes files that its cursor alone holds and that no table has any more, or one that does units
+abbrev pub DeletesOrBuilds : ParsedPiece → Type 0
+DeletesOrBuilds (Says (CloseCursor cursor)) = ⊤
+DeletesOrBuilds parsed = DoesUnits parsed
 
 -- A SELECT, a FETCH or SHOW FILES that isn't refused: what it prints comes from the files, or tells of them.
 abbrev pub PrintsStored : Parser → SessionState → State → Piece → Type 0
@@ -47,14 +61,23 @@ pub record AnsweredButRows (p : Parts) (session : StoreSession) (x : SessionStat
   pub outcome_is : outcome ≡ outcome_of (refused_by grammar_parser x s piece)
   pub reply_is : ¬ (PrintsStored grammar_parser x s piece) → reply ≡ (turn_by grammar_parser x s piece).reply
 
--- SHOW FILES, which tells what is in memory, TRACE, OPEN or CLOSE
+-- SHOW FILES, which tells what is in memory, TRACE, OPEN or BEGIN COMPACT
 abbrev pub AsksNoFile : ParsedPiece → Type 0
 AsksNoFile (Says ShowFiles) = ⊤
 AsksNoFile (Says (Trace on)) = ⊤
 AsksNoFile (Says (OpenCursor cursor select)) = ⊤
-AsksNoFile (Says (CloseCursor cursor)) = ⊤
+AsksNoFile (Says (BeginCompact table)) = ⊤
 AsksNoFile parsed = ⊥
 
 -- the piece is refused, has no reply, or is one of those
 abbrev pub NeedsNoFile : SessionState → State → Piece → Type 0
 NeedsNoFile session s piece = IsSome (refused_by grammar_parser session s piece) ⊎ (read piece ≡ Nothing) ⊎ AsksNoFile (read piece)
+
+-- a CLOSE of a cursor whose files its table has still
+abbrev pub ClosesListed : Parts → StoreSession → ParsedPiece → Type 0
+ClosesListed p session (Says (CloseCursor cursor)) = (c : AnOpenCursor) × (Some c ≡ cursor_of cursor session.cursors) × HasAllListed p c
+ClosesListed p session parsed = ⊥
+
+-- **What makes no call on the host**, in a store with these parts and this session
+abbrev pub MakesNoCall : Parts → StoreSession → SessionState → State → Piece → Type 0
+MakesNoCall p session x s piece = NeedsNoFile x s piece ⊎ ClosesListed p session (read piece)

@@ -1,8 +1,11 @@
 -- What OPEN, FETCH and CLOSE make of a store, where no rule of cursors refuses them.
-use Rattle.std.specs.Prelude.{◌≡◌, ◌++◌, ◌∷◌, [], ◌-◌, ◌<◌, ℕ, List, slice_get, take, Option, Some}
+use Rattle.std.specs.Prelude.{◌≡◌, ◌⊎◌, ◌++◌, ◌∷◌, [], ◌-◌, ◌<◌, ℕ, true, List, slice_get, take, Option, Some}
+use Rattle.std.specs.List.{AllByRecursion}
 use Rattle.std.specs.Map.{keys_of}
+use Rattle.sasi_host.specs.declared.name.FileName.{FileName}
 use Rattle.sasi_host.specs.View.{View}
-use Rattle.sasi_layout.specs.Serving.{CanChange, StoreInMemory}
+use Rattle.sasi_manifest.specs.FileNames.{has_name}
+use Rattle.sasi_layout.specs.Serving.{StoreInMemory}
 use Rattle.sasi_machine.specs.Prepares.{CanAnswer}
 use Rattle.sasi_machine.specs.declared.prepared.FetchAsked.{FetchAsked}
 use Rattle.sasi_machine.specs.declared.prepared.OpenAsked.{OpenAsked}
@@ -21,9 +24,12 @@ use Rattle.sasi_fetch.specs.Cursors.{view_of}
 use Rattle.sasi_fetch.specs.Printing.{PrintsAtMost}
 use Rattle.sasi_tables.specs.Held.{AreForgottenBut}
 use Rattle.sasi_tables.specs.MakesMoves.{Knows}
-use Rattle.sasi_tables.specs.TablesView.{IsOfParts, memory_of}
+use Rattle.sasi_tables.specs.TablesView.{memory_of}
+use Rattle.sasi_tables.specs.declared.fault.StepFault.{StepFault}
+use Rattle.sasi_tables.specs.declared.fault.StepFault.TheVariants as fault
 use Rattle.sasi_tables.specs.declared.parts.Parts.{Parts}
-use Rattle.sasi_store.specs.Cursors.{AreCursors, HasNamesOf, Opened}
+use Rattle.sasi_tasks.specs.MakesTaskMoves.{CanGoOn}
+use Rattle.sasi_store.specs.Cursors.{AreCursors, HasNamesOf, Opened, view_names}
 use Rattle.sasi_store.specs.StoreView.{KnowsAll}
 use Rattle.sasi_store.specs.Worlds.{PartsServe, World, closed_world, fetched_world, opened_world}
 use Rattle.sasi_store.specs.declared.session_state.OpenCursor.{OpenCursor}
@@ -43,8 +49,7 @@ open_refusal cursors asked = first_refusal (cursor_rules (keys_of cursors) (stat
 -- **A cursor more is open**, over what its table has: a world that was served is served with it. No call was made.
 pub record IsOpened (kinds : List Class) (v : View) (asked : OpenAsked) (old new : Parts) (was now : SessionState) : Type 0 where
   pub serves : (w : World) → PartsServe v old was w → PartsServe v new now (opened_world asked w)
-  pub ready : CanChange v (memory_of new)
-  pub parts : IsOfParts new
+  pub ready : CanGoOn v now.views new now.tasks.items
   pub cursors : AreCursors v.files new now
   pub classes : KnowsAll kinds new now
   pub knows : Knows (memory_of new) old.schema.definitions old.max_timestamp
@@ -55,19 +60,28 @@ pub record IsOpened (kinds : List Class) (v : View) (asked : OpenAsked) (old new
 pub record IsFetched (kinds : List Class) (a b : View) (asked : FetchAsked) (p : Parts) (was now : SessionState) (reply_old reply_new : List ℕ) : Type 0 where
   pub serves : (w : World) → PartsServe a p was w → PartsServe b p now (fetched_world asked w)
   pub reply_is : (w : World) → PartsServe a p was w → reply_new ≡ reply_old ++ rows_lines (take asked.count (rows_left asked.cursor w.session.cursors))
+  pub ready : CanGoOn b now.views p now.tasks.items
   pub cursors : AreCursors b.files p now
   pub classes : KnowsAll kinds p was → KnowsAll kinds p now
   pub names : keys_of now.cursors ≡ keys_of was.cursors
   -- in any file it prints no more than that
   pub few : (c : OpenCursor) → Some c ≡ cursor_of asked.cursor was.cursors → PrintsAtMost c.rows.reader.picked asked.count reply_old reply_new
 
--- **A cursor is closed.** Of the maps of its view those are gone that neither a table has nor a view that is out.
-pub record IsClosed (v : View) (name : List ℕ) (old new : Parts) (was now : SessionState) : Type 0 where
-  pub serves : (w : World) → AreCursors v.files old was → PartsServe v old was w → PartsServe v new now (closed_world name w)
+-- **A cursor is closed.** Of the files of its view those are gone that neither a table has nor a view that is out, and so are its maps.
+pub record IsClosed (a b : View) (name : List ℕ) (old new : Parts) (was now : SessionState) : Type 0 where
+  pub serves : (w : World) → PartsServe a old was w → PartsServe b new now (closed_world name w)
   pub memory : memory_of new ≡ memory_of old
-  pub parts : IsOfParts new
-  pub cursors : AreCursors v.files old was → AreCursors v.files new now
+  pub ready : CanGoOn b now.views new now.tasks.items
+  pub cursors : AreCursors b.files new now
   pub classes : (kinds : List Class) → KnowsAll kinds old was → KnowsAll kinds new now
   -- so are the names of a model's session
   pub names : (x : model.SessionState) → HasNamesOf was.cursors x → HasNamesOf now.cursors (record x { cursors = model.without_cursor name x.cursors })
   pub forgotten : (c : OpenCursor) → Some c ≡ cursor_of name was.cursors → AreForgottenBut old.tables.items now.views (map_numbers (view_of c.rows)) old.maps new.maps
+
+-- the table of the cursor has all files still that it lists
+abbrev pub HasAllListed : Parts → OpenCursor → Type 0
+HasAllListed p c = AllByRecursion (λ (file : FileName). has_name p.manifest.listing.tables file ≡ true) (view_names (view_of c.rows))
+
+-- a call on the host failed, or memory ran out
+abbrev pub IsOfCalls : StepFault → Type 0
+IsOfCalls f = (f ≡ fault.Failed) ⊎ (f ≡ fault.OutOfMemory)

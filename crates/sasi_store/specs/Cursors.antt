@@ -1,5 +1,5 @@
 -- The open cursors of a store: what is kept of each, and which cursor of a model's session it is.
-use Rattle.std.specs.Prelude.{◌≡◌, ◌≤◌, ◌<◌, ◌-◌, ℕ, Contains, List, length, map, slice_get, Option, Some}
+use Rattle.std.specs.Prelude.{◌≡◌, ◌⊎◌, ◌≤◌, ◌<◌, ◌-◌, ℕ, Contains, List, length, map, slice_get, Option, Some}
 use Rattle.std.specs.List.{AllByRecursion, flat_map}
 use Rattle.sasi_host.specs.declared.name.FileName.{FileName}
 use Rattle.sasi_host.specs.Names.{Folder}
@@ -9,21 +9,19 @@ use Rattle.sasi_model.specs.Cells.{Partition}
 use Rattle.sasi_model.specs.Sessions as model
 use Rattle.sasi_manifest.specs.Edits.{files_of}
 use Rattle.sasi_manifest.specs.ListedDefinition.{ListedDefinition}
-use Rattle.sasi_print.specs.Files.{file_text}
-use Rattle.sasi_print.specs.declared.file_lines.FileState.TheVariants.{Current}
-use Rattle.sasi_views.specs.Books.{Book, count_of}
+use Rattle.sasi_views.specs.Books.{Book}
 use Rattle.sasi_views.specs.Kept.{IsCounted}
+pub use Rattle.sasi_views.specs.Parts.{view_names}
 use Rattle.sasi_views.specs.Parts.{ListsOnce}
-use Rattle.sasi_views.specs.declared.component.Component.TheVariants as component
 use Rattle.sasi_views.specs.declared.part.Part.{Part}
 use Rattle.sasi_views.specs.declared.part.Part.TheVariants.{File, Map}
 use Rattle.sasi_cursors.specs.Agreement.{Agrees}
-use Rattle.sasi_engine.specs.Plans.{names_of}
 use Rattle.sasi_plan.specs.Answers.{RowsLeft}
 use Rattle.sasi_plan.specs.contracts.plan_candidates.PlanCandidatesCandidates.TheImpl as source
 use Rattle.sasi_fetch.specs.Cursors.{IsReadable, view_of}
 use Rattle.sasi_fetch.specs.Printing.{row_picked}
 use Rattle.sasi_tables.specs.Pinned.{IsAside}
+use Rattle.sasi_tasks.specs.Running.{IsUnlisted}
 use Rattle.sasi_tables.specs.declared.parts.Parts.{Parts}
 use Rattle.sasi_store.specs.declared.session_state.OpenCursor.{OpenCursor}
 use Rattle.sasi_store.specs.declared.session_state.SessionState.{SessionState}
@@ -42,26 +40,22 @@ views_out cursors = map (λ (e : List ℕ × OpenCursor). view_of e.1.rows) curs
 abbrev pub HasFewOut : Book → Type 0
 HasFewOut book = (out : List (List Part)) × IsCounted book out × (length out ≤ 64)
 
--- the files of a view
-abbrev pub view_names : List Part → List FileName
-view_names parts = flat_map names_of parts
-
 -- what is told of them: the name of each cursor, and the files that it holds
 abbrev pub views_told : Opened → List (List ℕ × List FileName)
 views_told cursors = map (λ (e : List ℕ × OpenCursor). (e.0, view_names (view_of e.1.rows))) cursors
 
--- files, each current, and how many views list it
-abbrev pub counted_texts : Book → List FileName → List (List ℕ)
-counted_texts book names = map (λ (name : FileName). file_text name Current (count_of book (component.File name))) names
+-- the names of the files that the open cursors hold
+abbrev pub view_names_out : SessionState → List FileName
+view_names_out session = flat_map (λ (view : List Part). view_names view) (views_out session.cursors)
 
 -- ---- what is kept of them
 
--- a data file that the table has listed, with these index files, or a frozen map
+-- a data file of a number that is used, which the table has listed with these index files or has no more, or a frozen map
 abbrev pub IsKeptPart : Parts → ℕ → Part → Type 0
-IsKeptPart p table (File number indexes) = Contains (files_of p.manifest.listing.tables table) (record { number = number; parts = indexes })
+IsKeptPart p table (File number indexes) = (number ≤ p.numbers.data) × (Contains (files_of p.manifest.listing.tables table) (record { number = number; parts = indexes }) ⊎ IsUnlisted number p.manifest.listing)
 IsKeptPart p table (Map number) = IsAside p number
 
--- It can be read on, and lists files and frozen maps of its table, none of them twice.
+-- It can be read on, and lists files that its table has or had, and frozen maps, none of them twice.
 pub record IsKept (files : Option Folder) (p : Parts) (c : OpenCursor) : Type 0 where
   pub some : 0 < c.table
   pub row : ListedDefinition

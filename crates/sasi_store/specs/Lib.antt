@@ -4,4 +4,7 @@ pub mod Answers
 pub mod Selects
 pub mod Worlds
 pub mod CursorCalls
+pub mod HeldDamage
 pub mod Steps
+pub mod Compactions
+pub mod ToldFiles

@@ -4,7 +4,7 @@ use Rattle.std.specs.List.{AllByRecursion, list_any}
 use Rattle.std.specs.Option.{option_map_or}
 use Rattle.sasi_types.specs.declared.partitioner.Partitioner.{Partitioner}
 use Rattle.sasi_types.specs.declared.statement.Select.{Select}
-use Rattle.sasi_types.specs.declared.statement.Statement.TheVariants.{Fetch, Query}
+use Rattle.sasi_types.specs.declared.statement.Statement.TheVariants.{Compact, Fetch, Query, StepCompact}
 use Rattle.sasi_host.specs.declared.name.FileName.{FileName}
 use Rattle.sasi_host.specs.Names.{Bytes, Folder}
 use Rattle.sasi_host.specs.View.{contents_in}
@@ -112,8 +112,10 @@ abbrev pub HasShortTable : Option Folder → Layout → Select → Option ℕ �
 HasShortTable seen l select None = Unit {0}
 HasShortTable seen l select (Some number) = HasShortFiles seen l (record { table = number; select = select })
 
--- the same for a piece; only a SELECT supposes something. Of a FETCH no bound is said here: what it may read, its cursor says.
+-- the same for a piece; only a SELECT supposes something. Of a FETCH no bound is said here: what it may read, its cursor says. Nor is one of COMPACT and STEP COMPACT.
 abbrev pub HasShortRows : Option Folder → Layout → ParsedPiece → Type 0
 HasShortRows seen l (Says (Query select)) = HasShortTable seen l select (number_of_table select.table (definitions_of l))
 HasShortRows seen l (Says (Fetch cursor count)) = ⊥
+HasShortRows seen l (Says (Compact table)) = ⊥
+HasShortRows seen l (Says (StepCompact table units)) = ⊥
 HasShortRows seen l parsed = Unit {0}

@@ -1,19 +1,29 @@
 // OPEN, FETCH and CLOSE.
-ghost use Rattle.std.specs.Prelude.{◌≡◌, ◌++◌, ◌∷◌, [], None, Some, true, false, length, map, ◌<◌, IfErr, IfOk, OnOk};
-ghost use Rattle.sasi_folder.specs.Damages.{FolderShows};
-ghost use Rattle.sasi_host.specs.Disk.{Changes, Same};
+ghost use Rattle.std.specs.Prelude.{◌≡◌, ◌++◌, ◌∷◌, [], ℕ, None, Some, true, false, length, map, ◌<◌, ◌≤◌, IfErr, IfOk, OnOk};
+ghost use Rattle.sasi_host.specs.Disk.{Changes, Same, Within};
 ghost use Rattle.sasi_host.specs.Names.{Folder};
-ghost use Rattle.sasi_layout.specs.Serving.{CanChange};
+ghost use Rattle.sasi_host.specs.View.{DiskCauses};
 ghost use Rattle.sasi_cursors.specs.Cursors.{is_open};
 ghost use Rattle.sasi_machine.specs.Outcome.{outcome_of};
 ghost use Rattle.sasi_model.specs.Abbreviations.{NoCursor, ok_line};
 ghost use Rattle.sasi_model.specs.Lines.{refusal_line};
 ghost use Rattle.sasi_model.specs.Refusals.{Refusal as SomeRefusal};
 ghost use Rattle.sasi_tables.specs.Faults.{OnMissing, OnSpent, OnStepDamage, StepCauses};
-ghost use Rattle.sasi_tables.specs.TablesView.{IsOfParts, memory_of};
+ghost use Rattle.sasi_tables.specs.TablesView.{memory_of};
 ghost use Rattle.sasi_tables.specs.declared.fault.StepFault.TheVariants.{OutOfMemory};
-ghost use Rattle.sasi_store.specs.CursorCalls.{CanOpenOn, IsClosed, IsFetched, IsOpened, open_refusal};
+ghost use Rattle.sasi_cursors.specs.Cursors.{cursor_of};
+ghost use Rattle.sasi_layout.specs.Between.{Between};
+ghost use Rattle.sasi_layout.specs.NumbersInOrder.{Rising};
+ghost use Rattle.sasi_manifest.specs.Edits.{files_of};
+ghost use Rattle.sasi_views.specs.Changes.{AreCounted, Given};
+ghost use Rattle.sasi_views.specs.Parts.{components_of, view_names};
+ghost use Rattle.sasi_tasks.specs.Unheld.{AreGone, AreOnce, AreThere, AreUnchosen, is_left, is_one_of};
+ghost use Rattle.sasi_recover.specs.OpenedFolder.{AnyFolderChange};
+ghost use Rattle.sasi_tasks.specs.MakesTaskMoves.{CanGoOn, KeepsHeld};
+ghost use Rattle.sasi_store.specs.CursorCalls.{CanOpenOn, HasAllListed, IsClosed, IsFetched, IsOfCalls, IsOpened, open_refusal};
+ghost use Rattle.sasi_store.specs.declared.session_state.OpenCursor.{OpenCursor as AnOpenCursor};
 ghost use Rattle.sasi_store.specs.Cursors.{AreCursors};
+ghost use Rattle.sasi_store.specs.HeldDamage.{StepShows};
 ghost use Rattle.sasi_store.specs.Selects.{IsSelectable};
 ghost use Rattle.sasi_store.specs.StoreView.{KnowsAll};
 ghost use Rattle.sasi_store.specs.Worlds.{PartsServe, World};
@@ -24,11 +34,13 @@ use sasi_analyzers::Kit;
 use sasi_cursors::Cursors;
 use sasi_engine::map_numbers;
 use sasi_fetch::Cursor;
-use sasi_host::Host;
+use sasi_host::{Failed, Host};
 use sasi_machine::{FetchAsked, OpenAsked, Outcome, Refusal, Reply, check_open, refuse};
 use sasi_print::ok;
 use sasi_tables::{Parts, StepFault, aside_parts, forget_unused, freeze};
-use sasi_types::Name;
+use sasi_tasks::delete_left;
+use sasi_types::{Name, TableNumber};
+use sasi_views::{View, ViewBook};
 use std::alloc::AllocError;
 
 // Opens a cursor that no rule refuses, over what its table has now: the memtable is frozen first, unless it is empty. No call is made.
@@ -39,8 +51,7 @@ fn open_cursor<H: Host>(
     kit: &mut Kit,
     asked: &OpenAsked,
 ) -> Result<(), StepFault>
-    requires ready { CanChange (H.view host.now) (memory_of parts.old) }
-    requires parts { IsOfParts parts.old }
+    requires ready { CanGoOn (H.view host.now) session.old.views parts.old session.old.tasks.items }
     requires cursors { AreCursors (H.view host.now).files parts.old session.old }
     requires classes { KnowsAll (map (λ b. kind (b.vtable, b.value)) kit.old.objects.items) parts.old session.old }
     requires there { IsSelectable (memory_of parts.old) asked.now.rows }
@@ -85,8 +96,7 @@ pub fn open<H: Host>(
     asked: OpenAsked,
     reply: &mut Reply,
 ) -> Result<Outcome, StepFault>
-    requires ready { CanChange (H.view host.now) (memory_of parts.old) }
-    requires parts { IsOfParts parts.old }
+    requires ready { CanGoOn (H.view host.now) session.old.views parts.old session.old.tasks.items }
     requires cursors { AreCursors (H.view host.now).files parts.old session.old }
     requires classes { KnowsAll (map (λ b. kind (b.vtable, b.value)) kit.old.objects.items) parts.old session.old }
     requires there { CanOpenOn (memory_of parts.old) asked.rows }
@@ -114,14 +124,14 @@ pub fn fetch<H: Host>(
     asked: FetchAsked,
     reply: &mut Reply,
 ) -> Result<Outcome, StepFault>
-    requires ready { CanChange (H.view host.old) (memory_of parts.now) }
-    requires parts { IsOfParts parts.now }
+    requires ready { CanGoOn (H.view host.old) session.old.views parts.now session.old.tasks.items }
     requires cursors { AreCursors (H.view host.old).files parts.now session.old }
     requires classes { KnowsAll (map (λ b. kind (b.vtable, b.value)) kit.old.objects.items) parts.now session.old }
     ensures refused { IfOk result (λ outcome. is_open asked.cursor session.old.cursors ≡ false → (outcome ≡ outcome_of (Some (NoCursor asked.cursor))) × (reply.new ≡ reply.old ++ refusal_line (NoCursor asked.cursor)) × (session.new ≡ session.old)) }
     ensures taken { IfOk result (λ outcome. is_open asked.cursor session.old.cursors ≡ true → (outcome ≡ outcome_of None) × IsFetched (map (λ b. kind (b.vtable, b.value)) kit.old.objects.items) (H.view host.old) (H.view host.new) asked parts.now session.old session.new reply.old reply.new) }
     ensures no_call { is_open asked.cursor session.old.cursors ≡ false → host.new ≡ host.old }
-    ensures damaged { (folder : Folder) → (H.view host.new).files ≡ Some folder → IfErr result (OnStepDamage (FolderShows folder)) }
+    // The damage may be that of a file that the cursor holds and that is listed no more.
+    ensures damaged { (folder : Folder) → (H.view host.new).files ≡ Some folder → IfErr result (OnStepDamage (StepShows session.old.views folder)) }
     ensures undamaged { (w : World) → PartsServe (H.view host.old) parts.now session.old w → IfErr result (OnStepDamage (λ _. ⊥)) }
     ensures unspent { IfErr result (OnSpent (λ _. ⊥)) }
     ensures present { IfErr result (OnMissing (λ _. ⊥)) }
@@ -138,27 +148,61 @@ pub fn fetch<H: Host>(
     Ok(Outcome::Done)
 }
 
-/// Ends a cursor: its view is given back, and the maps that nothing else needs are dropped. Refuses where no cursor has the name. No call is made.
+/// Ends a cursor: its view is given back, and the files and maps that nothing else needs are deleted and dropped. Refuses where no cursor has the name.
 pub fn close<H: Host>(
     parts: &mut Parts,
     session: &mut SessionState,
-    host: &H,
+    host: &mut H,
     name: Name,
     reply: &mut Reply,
-) -> Result<Outcome, AllocError>
-    requires parts { IsOfParts parts.old }
-    requires cursors { AreCursors (H.view host.now).files parts.old session.old }
+) -> Result<Outcome, StepFault>
+    requires ready { CanGoOn (H.view host.old) session.old.views parts.old session.old.tasks.items }
+    requires cursors { AreCursors (H.view host.old).files parts.old session.old }
     ensures refused { IfOk result (λ outcome. is_open name session.old.cursors ≡ false → (outcome ≡ outcome_of (Some (NoCursor name))) × (reply.new ≡ reply.old ++ refusal_line (NoCursor name)) × (parts.new ≡ parts.old) × (session.new ≡ session.old)) }
-    ensures taken { IfOk result (λ outcome. is_open name session.old.cursors ≡ true → (outcome ≡ outcome_of None) × (reply.new ≡ reply.old ++ ok_line) × IsClosed (H.view host.now) name parts.old parts.new session.old session.new) }
+    ensures taken { IfOk result (λ outcome. is_open name session.old.cursors ≡ true → (outcome ≡ outcome_of None) × (reply.new ≡ reply.old ++ ok_line) × IsClosed (H.view host.old) (H.view host.new) name parts.old parts.new session.old session.new) }
+    ensures free { is_open name session.old.cursors ≡ false → host.new ≡ host.old }
+    // Where its table has all of its files still, no call is made.
+    ensures no_call { (c : AnOpenCursor) → Some c ≡ cursor_of name session.old.cursors → HasAllListed parts.old c → host.new ≡ host.old }
+    ensures tasks { session.new.tasks.items ≡ session.old.tasks.items }
+    ensures failed { IfErr result (λ f. IsOfCalls f) }
+    ensures held { Changes (KeepsHeld session.new.views) (H.view host.old) (H.view host.new) }
+    ensures changes { Changes AnyFolderChange (H.view host.old) (H.view host.new) }
+    ensures any_moment { (w : World) → PartsServe (H.view host.old) parts.old session.old w → Changes (λ x y. Between w.layout [] y) (H.view host.old) (H.view host.new) }
+    ensures reads { (H.view host.new).reads ≡ (H.view host.old).reads }
+    ensures causes { StepCauses (H.view host.old) (H.view host.new) result }
 {
-    let _ = host;
     let Some(cursor) = session.cursors.remove(&name) else {
-        return refuse(reply, Refusal::NoCursor(name));
+        return Ok(refuse(reply, Refusal::NoCursor(name))?);
     };
     let view = cursor.rows.end();
     let numbers = map_numbers(parts.alloc, view.parts().as_slice())?;
-    session.views.give(view);
+    give_back(parts, &mut session.views, host, cursor.table, view)?;
     forget_unused(&mut parts.maps, &session.views, &parts.tables, &numbers);
     ok(reply)?;
     Ok(Outcome::Done)
+}
+
+/// Gives a view back, also where it fails, and deletes the files that no other view lists and that its table has no more.
+pub fn give_back<H: Host>(
+    parts: &Parts,
+    views: &mut ViewBook,
+    host: &mut H,
+    table: TableNumber,
+    view: View,
+) -> Result<(), Failed>
+    requires rising { (high : ℕ) × Rising 0 high (files_of parts.now.manifest.listing.tables table) }
+    requires there { AreThere (is_left views.old (files_of parts.now.manifest.listing.tables table)) (H.view host.old) (view_names view) }
+    requires once { AreOnce (view_names view) }
+    requires counted { AreCounted views.old (components_of view) }
+    requires out { 1 ≤ views.old.out }
+    ensures given { Given views.old views.new (components_of view) }
+    ensures gone { OnOk result (AreGone (is_left views.old (files_of parts.now.manifest.listing.tables table)) (H.view host.new) (view_names view)) }
+    ensures idle { AreUnchosen (is_left views.old (files_of parts.now.manifest.listing.tables table)) (view_names view) → host.new ≡ host.old }
+    ensures changes { Changes (Within (is_one_of (is_left views.old (files_of parts.now.manifest.listing.tables table)) (view_names view))) (H.view host.old) (H.view host.new) }
+    ensures causes { DiskCauses (H.view host.old) (H.view host.new) result }
+{
+    let files = parts.manifest.listing().tables.files_of(table);
+    let deleted = delete_left(host, views, files, view.parts().as_slice());
+    views.give(view);
+    deleted
 }

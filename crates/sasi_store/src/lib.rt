@@ -4,6 +4,7 @@
 //! crash leaves at each moment.
 #![tactic(auto)]
 
+mod compactions;
 mod cursors;
 mod select;
 mod session_state;

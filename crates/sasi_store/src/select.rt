@@ -63,6 +63,7 @@ pub fn select<H: Host>(
     // The view is given back, also where it fails.
     ensures back { (out : List (List AnyPart)) → IsCounted session.old.views out → IsCounted session.new.views out }
     ensures cursors { session.new.cursors ≡ session.old.cursors }
+    ensures tasks { session.new.tasks ≡ session.old.tasks }
 {
     let candidates = answer(parts, &mut session.views, host, kit, rows, reply)?;
     print_checked(session, candidates, reply)?;

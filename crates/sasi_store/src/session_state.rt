@@ -1,6 +1,7 @@
 // What a run adds to a store.
 use sasi_cursors::Cursors;
 use sasi_fetch::Cursor;
+use sasi_tasks::RunningTask;
 use sasi_types::TableNumber;
 use sasi_views::ViewBook;
 
@@ -13,6 +14,8 @@ pub struct SessionState {
     pub views: ViewBook,
     /// The open cursors by their names.
     pub cursors: Cursors<OpenCursor>,
+    /// The compactions that run, in the order in which they were begun.
+    pub tasks: Vec<RunningTask>,
 }
 
 /// An open cursor.

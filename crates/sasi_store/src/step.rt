@@ -1,16 +1,18 @@
 // Steps.
-ghost use Rattle.std.specs.Prelude.{◌≡◌, ◌<◌, ◌^◌, OnOk, map};
-ghost use Rattle.sasi_layout.specs.Serving.{CanChange, known_in_memory};
+ghost use Rattle.std.specs.Prelude.{◌≡◌, ◌<◌, ◌^◌, map};
+ghost use Rattle.sasi_layout.specs.Serving.{known_in_memory};
 ghost use Rattle.sasi_machine.specs.Prepares.{IsStateOf};
 ghost use Rattle.sasi_model.specs.Pieces.{piece_of};
 ghost use Rattle.sasi_model.specs.Sessions.{SessionState as ModelSession};
 ghost use Rattle.sasi_model.specs.State.{State};
-ghost use Rattle.sasi_store.specs.Answers.{NeedsNoFile};
+ghost use Rattle.sasi_store.specs.Answers.{MakesNoCall};
 ghost use Rattle.sasi_store.specs.Steps.{StepPromises};
-ghost use Rattle.sasi_tables.specs.TablesView.{IsOfParts, memory_of};
+ghost use Rattle.sasi_tables.specs.TablesView.{memory_of};
+ghost use Rattle.sasi_tasks.specs.MakesTaskMoves.{CanGoOn};
 ghost use Rattle.sasi_store.specs.Cursors.{AreCursors, HasNamesOf};
 ghost use Rattle.sasi_store.specs.StoreView.{KnowsAll};
 
+use crate::compactions::go_on;
 use crate::cursors::{close, fetch, open};
 use crate::select::select;
 use crate::session_state::SessionState;
@@ -31,14 +33,12 @@ pub fn step<H: Host>(
     end: PieceEnd,
     reply: &mut Reply,
 ) -> Result<Outcome, StepFault>
-    requires ready { CanChange (H.view host.old) (memory_of parts.old) }
-    requires parts { IsOfParts parts.old }
+    requires goes_on { CanGoOn (H.view host.old) session.old.views parts.old session.old.tasks.items }
     requires classes { KnowsAll (map (λ b. kind (b.vtable, b.value)) kit.old.objects.items) parts.old session.old }
     requires cursors { AreCursors (H.view host.old).files parts.old session.old }
     ensures kinds { map (λ b. kind (b.vtable, b.value)) kit.new.objects.items ≡ map (λ b. kind (b.vtable, b.value)) kit.old.objects.items }
     ensures steps { StepPromises (map (λ b. kind (b.vtable, b.value)) kit.old.objects.items) (piece_of end piece.now) (H.view host.old) (H.view host.new) parts.old parts.new session.old session.new reply.new result }
-    ensures no_file_call { (x : ModelSession) (s : State) → HasNamesOf session.old.cursors x → IsStateOf (known_in_memory (memory_of parts.old)) s → NeedsNoFile x s (piece_of end piece.now) → host.new ≡ host.old }
-    ensures parts { OnOk result (IsOfParts parts.new) }
+    ensures no_file_call { (x : ModelSession) (s : State) → HasNamesOf session.old.cursors x → IsStateOf (known_in_memory (memory_of parts.old)) s → MakesNoCall parts.old session.old x s (piece_of end piece.now) → host.new ≡ host.old }
 {
     match prepare(
         parts.alloc,
@@ -70,6 +70,10 @@ pub fn step<H: Host>(
             flush_unless_empty(parts, &session.views, host, kit, table)?;
             Ok(Outcome::Done)
         }
+        Prepared::Compact(asked) => {
+            go_on(parts, session, host, kit, &asked)?;
+            Ok(Outcome::Done)
+        }
         Prepared::Select(rows) => {
             select(parts, session, host, kit, &rows, reply)?;
             Ok(Outcome::Done)
@@ -79,12 +83,12 @@ pub fn step<H: Host>(
             Ok(Outcome::Done)
         }
         Prepared::Files => {
-            show_files(parts, &session.views, reply)?;
+            show_files(parts, session, reply)?;
             Ok(Outcome::Done)
         }
         Prepared::Open(asked) => open(parts, session, host, kit, asked, reply),
         Prepared::Fetch(asked) => fetch(parts, session, host, kit, asked, reply),
-        Prepared::Close(cursor) => Ok(close(parts, session, host, cursor, reply)?),
+        Prepared::Close(cursor) => close(parts, session, host, cursor, reply),
     }
 }
 

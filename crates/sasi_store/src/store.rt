@@ -8,7 +8,6 @@ ghost use Rattle.sasi_model.specs.Pieces.{piece_of};
 ghost use Rattle.sasi_model.specs.Refusals.{read};
 ghost use Rattle.sasi_model.specs.Sessions.{SessionState as ModelSession, new_session};
 ghost use Rattle.sasi_model.specs.State.{State};
-ghost use Rattle.sasi_folder.specs.Damages.{FolderShows};
 ghost use Rattle.sasi_folder.specs.Opens.{CanOpen};
 ghost use Rattle.sasi_layout.specs.Between.{Between};
 ghost use Rattle.sasi_layout.specs.Layout.{Layout};
@@ -21,14 +20,16 @@ ghost use Rattle.sasi_machine.specs.Prepares.{IsStateOf};
 ghost use Rattle.sasi_recover.specs.Faults.{OnDiffers, OnMissing, OpenCauses};
 ghost use Rattle.sasi_recover.specs.OpenedFolder.{AnyFolderChange};
 ghost use Rattle.sasi_recover.specs.Promises.{OpensSafely, ReportsTruly};
-ghost use Rattle.sasi_store.specs.Answers.{Answered, AnsweredButRows, NeedsNoFile, ReadsRows};
+ghost use Rattle.sasi_store.specs.Answers.{Answered, AnsweredButRows, DeletesOrBuilds, MakesNoCall, ReadsFiles};
+ghost use Rattle.sasi_store.specs.HeldDamage.{StepShows};
+ghost use Rattle.sasi_tasks.specs.MakesTaskMoves.{KeepsHeld};
 ghost use Rattle.sasi_tables.specs.Faults.{OnMissing as OnMissingClass, OnSpent, OnStepDamage, StepCauses};
-ghost use Rattle.sasi_tables.specs.Frames.{KeepsFilesOf, KeepsListed};
 ghost use Rattle.sasi_store.specs.Selects.{HasShortRows, select_reads};
 ghost use Rattle.sasi_store.specs.Cursors.{HasNamesOf};
 ghost use Rattle.sasi_store.specs.StoreView.{IsReady, KnowsStore, store_memory};
 ghost use Rattle.sasi_store.specs.Worlds.{ServesWorld, World, new_world, steps};
 
+use crate::cursors::give_back;
 use crate::session_state::SessionState;
 use crate::step::step;
 use sasi_analyzers::Kit;
@@ -37,6 +38,7 @@ use sasi_host::{Failed, Host};
 use sasi_machine::{Outcome, Reply};
 use sasi_recover::OpenFault;
 use sasi_tables::{Parts, StepFault, parts_of};
+use sasi_tasks::give_up;
 use sasi_types::{Partitioner, PieceEnd};
 use sasi_views::ViewBook;
 use std::alloc::Global;
@@ -81,12 +83,14 @@ impl Store {
         };
         let views = ViewBook::new(alloc);
         let cursors = Cursors::new(alloc);
+        let tasks = Vec::new(alloc);
         Ok(Store {
             parts,
             session: SessionState {
                 trace: false,
                 views,
                 cursors,
+                tasks,
             },
             steps: 0,
             usable: true,
@@ -116,17 +120,18 @@ impl Store {
         ensures needed { IfOk result (λ outcome. HasNeeded (map (λ b. kind (b.vtable, b.value)) kit.old.objects.items) (class_needed (asks (known_in_memory (store_memory self.old)) (piece_of end piece.now)))) }
         ensures needed_first { IfErr result (OnSpent (λ _. HasNeeded (map (λ b. kind (b.vtable, b.value)) kit.old.objects.items) (class_needed (asks (known_in_memory (store_memory self.old)) (piece_of end piece.now))))) }
         ensures missing { IfErr result (OnMissingClass (LacksNeeded (map (λ b. kind (b.vtable, b.value)) kit.old.objects.items) (asks (known_in_memory (store_memory self.old)) (piece_of end piece.now)))) }
-        ensures damaged { (folder : Folder) → (H.view host.new).files ≡ Some folder → IfErr result (OnStepDamage (FolderShows folder)) }
+        // The damage may be that of a file that a cursor holds and that is listed no more.
+        ensures damaged { (folder : Folder) → (H.view host.new).files ≡ Some folder → IfErr result (OnStepDamage (StepShows self.old.session.views folder)) }
         ensures undamaged { (w : World) → ServesWorld (H.view host.old) self.old w → IfErr result (OnStepDamage (λ _. ⊥)) }
-        ensures no_file_call { (x : ModelSession) (s : State) → HasNamesOf self.old.session.cursors x → IsStateOf (known_in_memory (store_memory self.old)) s → NeedsNoFile x s (piece_of end piece.now) → host.new ≡ host.old }
-        ensures reads_only { asks (known_in_memory (store_memory self.old)) (piece_of end piece.now) ≡ NoChange → Changes Same (H.view host.old) (H.view host.new) }
-        ensures unread { (ReadsRows (read (piece_of end piece.now)) → ⊥) → (H.view host.new).reads ≡ (H.view host.old).reads }
+        // A CLOSE is one of them where the table of its cursor has all files still that the cursor holds.
+        ensures no_file_call { (x : ModelSession) (s : State) → HasNamesOf self.old.session.cursors x → IsStateOf (known_in_memory (store_memory self.old)) s → MakesNoCall self.old.parts self.old.session x s (piece_of end piece.now) → host.new ≡ host.old }
+        ensures reads_only { asks (known_in_memory (store_memory self.old)) (piece_of end piece.now) ≡ NoChange → (DeletesOrBuilds (read (piece_of end piece.now)) → ⊥) → Changes Same (H.view host.old) (H.view host.new) }
+        ensures unread { (ReadsFiles (read (piece_of end piece.now)) → ⊥) → (H.view host.new).reads ≡ (H.view host.old).reads }
         // The bound on what a SELECT reads supposes files of at most 2^40 bytes where a relation is on an indexed column.
         ensures reads { (w : World) → ServesWorld (H.view host.old) self.old w → HasShortRows (H.view host.old).files w.layout (read (piece_of end piece.now)) → (H.view host.new).reads ≤ (H.view host.old).reads + select_reads (H.view host.old).files w.layout (read (piece_of end piece.now)) }
         ensures changes { Changes AnyFolderChange (H.view host.old) (H.view host.new) }
-        // The files that are listed before the step stay, also where it fails; where it doesn't, they stay listed.
-        ensures files_stay { Changes (KeepsListed self.old.parts.manifest.listing) (H.view host.old) (H.view host.new) }
-        ensures listed_stay { OnOk result (KeepsFilesOf self.old.parts.manifest.listing self.new.parts.manifest.listing) }
+        // The files that open cursors hold after the step stay, also where it fails.
+        ensures held_stay { Changes (KeepsHeld self.new.session.views) (H.view host.old) (H.view host.new) }
         ensures usable { self.new.usable ≡ is_ok result }
         ensures steps { self.new.steps ≡ counted self.old.steps }
         ensures causes { StepCauses (H.view host.old) (H.view host.new) result }
@@ -160,15 +165,24 @@ impl Store {
         self.usable
     }
 
-    /// Ends the use of the store. Its cursors are closed, and the folder is left with the files of its tables and of the log alone.
+    /// Ends the use of the store. Its tasks are given up and its cursors closed, and the folder is left with the files of its tables and of the log alone.
     pub fn finish<H: Host>(self, host: &mut H) -> Result<(), Failed>
         requires { IsReady (H.view host.old) self }
         ensures ends { OnOk result ((w : World) → ServesWorld (H.view host.old) self w → Ended (H.view host.new) (closed w.layout)) }
         ensures any_moment { (w : World) → ServesWorld (H.view host.old) self w → Changes (λ x y. Between w.layout [] y) (H.view host.old) (H.view host.new) }
-        ensures unchanged { host.new ≡ host.old }
+        // Without cursors and tasks it makes no call.
+        ensures idle { self.session.cursors ≡ [] → self.session.tasks.items ≡ [] → host.new ≡ host.old }
+        ensures changes { Changes AnyFolderChange (H.view host.old) (H.view host.new) }
+        ensures reads { (H.view host.new).reads ≡ (H.view host.old).reads }
         ensures causes { DiskCauses (H.view host.old) (H.view host.new) result }
     {
-        let _ = host;
+        let Store { parts, session, .. } = self;
+        let mut views = session.views;
+        give_up(session.tasks, host)?;
+        for cursor in session.cursors.into_values() {
+            let view = cursor.rows.end();
+            give_back(&parts, &mut views, host, cursor.table, view)?;
+        }
         Ok(())
     }
 }

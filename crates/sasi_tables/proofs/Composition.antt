@@ -1,5 +1,5 @@
 -- Moves after moves, and moves that are made where a table's maps pass a test.
-use Rattle.std.proofs.Common.{◌≡◌, ◌<◌, ◌-◌, ◌+◌, ℕ, zero, suc, Bool, true, false, cond, nat_eq, List, [], ◌∷◌, slice_get, Option, None, Some, Result, Ok, Err, refl, sym, ap, subst, ◌∙◌, arith}
+use Rattle.std.proofs.Common.{◌≡◌, ◌<◌, ◌≤◌, ◌-◌, ◌+◌, ℕ, zero, suc, Bool, true, false, cond, nat_eq, List, [], ◌∷◌, slice_get, Option, None, Some, Result, Ok, Err, refl, sym, ap, subst, ◌∙◌, arith}
 use Rattle.std.specs.Prelude.{IfErr, OnOk}
 use Rattle.std.proofs.lemmas.Bool.Decides.{nat_tests}
 use Rattle.std.specs.Option.{option_map_or}
@@ -23,7 +23,7 @@ use Rattle.sasi_tables.specs.MakesMoves.{MakesMoves, MovesOf}
 use Rattle.sasi_tables.specs.declared.fault.StepFault.{StepFault}
 use Rattle.sasi_tables.specs.declared.fault.StepFault.TheVariants as fault
 use Rattle.sasi_tables.proofs.MoveCauses.{any_change, none_made}
-use Rattle.sasi_tables.proofs.ListedFrames.{same_stays, stays_on}
+use Rattle.sasi_tables.proofs.ListedFrames.{keeps_on, keeps_same, same_used, used_on}
 use Rattle.sasi_tables.proofs.TablesInMemory.{seen_as}
 
 -- ---- a mutation, and moves after it
@@ -52,6 +52,7 @@ module _ (m : Mutation) (more : MovesOf) where
   -- the mutation wasn't put
   pub put_alone : {T : Type 0} (a b : View) (old new : StoreInMemory) (e : StepFault) → MakesMoves {T = T} (λ l. Put m ∷ []) a b old new (Err e) → {U : Type 0} → MakesMoves {T = U} both a b old new (Err e)
   put_alone a b old new e first = record {
+    exactly = tt;
     any_moment = λ l serves. moves_early l a b (Put m ∷ []) (more (after_put m l)) (first.any_moment l serves);
     serves = tt;
     ready = tt;
@@ -62,6 +63,7 @@ module _ (m : Mutation) (more : MovesOf) where
     changes = first.changes;
     files_stay = first.files_stay;
     listed_stay = tt;
+    numbers_stay = tt;
     reads = first.reads;
     causes = record { disk = first.causes.disk; out = first.causes.out; ok = tt; failed = first.causes.failed; others = first.causes.others };
   }
@@ -76,6 +78,7 @@ module _ (m : Mutation) (more : MovesOf) where
   -- it was, and these moves come after it
   pub put_then : {T U : Type 0} (x : T) (a b c : View) (old mid new : StoreInMemory) (result : Result U StepFault) → MakesMoves {T = T} (λ l. Put m ∷ []) a b old mid (Ok x) → MakesMoves more b c mid new result → MakesMoves both a c old new result
   put_then x a b c old mid new result first second = record {
+    exactly = by_ok result (λ all aside are has. (let mid_has = first.exactly aside are has in all aside mid_has.0 mid_has.1)) second.exactly;
     any_moment = λ l serves. moves_on l a b c (Put m ∷ []) (more (after_put m l)) (first.any_moment l serves) (second.any_moment (after_put m l) (first.serves l serves));
     serves = by_ok result (λ all l serves. all (after_put m l) (first.serves l serves)) second.serves;
     ready = second.ready;
@@ -84,8 +87,9 @@ module _ (m : Mutation) (more : MovesOf) where
     undamaged = second.undamaged;
     present = second.present;
     changes = changes_both a b c first.changes second.changes;
-    files_stay = stays_on a b c old.manifest.listing mid.manifest.listing first.listed_stay first.files_stay second.files_stay;
-    listed_stay = by_ok result (λ keeps table f has. keeps table f (first.listed_stay table f has)) second.listed_stay;
+    files_stay = used_on a b c old.used.«data» mid.used.«data» first.numbers_stay first.files_stay second.files_stay;
+    listed_stay = by_ok result (keeps_on old.used.«data» mid.used.«data» new.used.«data» old.manifest.listing mid.manifest.listing new.manifest.listing first.numbers_stay first.listed_stay) second.listed_stay;
+    numbers_stay = by_ok result (λ higher. (let before : old.used.«data» ≤ mid.used.«data» = first.numbers_stay in omega (arith, before, higher))) second.numbers_stay;
     reads = second.reads ∙ first.reads;
     causes = causes_on a b c x result first.causes second.causes;
   }
@@ -138,6 +142,7 @@ module _ (test : List Partitions → Bool) (table : ℕ) (v : View) (store : Sto
   -- it doesn't pass: no move
   pub passes_not : IsSound v → CanChange v store → test (unflushed_maps h) ≡ false → MakesMoves (flush_where test table) v v store store done
   passes_not sound ready is = record {
+    exactly = λ aside are has. (are, has);
     any_moment = λ l serves. moves_none l v (flush_where test table l) sound (λ x now. (_, serves.shape x now));
     serves = λ l serves. subst (λ (ms : List Move). Serves v store (after_moves ms l)) (sym (moves_where false is l serves)) serves;
     ready = ready;
@@ -146,8 +151,9 @@ module _ (test : List Partitions → Bool) (table : ℕ) (v : View) (store : Sto
     undamaged = tt;
     present = tt;
     changes = any_change Same v v (stays v);
-    files_stay = same_stays store.manifest.listing v v (stays v);
-    listed_stay = λ table f has. has;
+    files_stay = same_used store.used.«data» v v (stays v);
+    listed_stay = keeps_same store.used.«data» store.used.«data» store.manifest.listing (omega arith);
+    numbers_stay = omega arith;
     reads = refl;
     causes = none_made v done (λ e is. cc);
   }
@@ -155,6 +161,7 @@ module _ (test : List Partitions → Bool) (table : ℕ) (v : View) (store : Sto
   -- it does: a flush
   pub passes : {T : Type 0} (b : View) (new : StoreInMemory) (result : Result T StepFault) → test (unflushed_maps h) ≡ true → MakesMoves (λ l. Flush table ∷ []) v b store new result → MakesMoves (flush_where test table) v b store new result
   passes b new result is makes = record {
+    exactly = makes.exactly;
     any_moment = λ l serves. subst (λ (ms : List Move). Changes (λ x y. Between l ms y) v b) (sym (moves_where true is l serves)) (makes.any_moment l serves);
     serves = by_ok result (λ all l serves. subst (λ (ms : List Move). Serves b new (after_moves ms l)) (sym (moves_where true is l serves)) (all l serves)) makes.serves;
     ready = makes.ready;
@@ -165,6 +172,7 @@ module _ (test : List Partitions → Bool) (table : ℕ) (v : View) (store : Sto
     changes = makes.changes;
     files_stay = makes.files_stay;
     listed_stay = makes.listed_stay;
+    numbers_stay = makes.numbers_stay;
     reads = makes.reads;
     causes = makes.causes;
   }

@@ -1,5 +1,5 @@
 -- A table that a store lists and creates.
-use Rattle.std.proofs.Common.{◌≡◌, ◌≢◌, ◌||◌, ℕ, suc, ◌+◌, List, [], ◌∷◌, ◌++◌, length, None, Some, refl, sym, ap, subst, ◌∙◌, arith}
+use Rattle.std.proofs.Common.{◌≡◌, ◌≢◌, ◌||◌, Bool, ℕ, suc, ◌+◌, List, [], ◌∷◌, ◌++◌, length, None, Some, refl, sym, ap, subst, ◌∙◌, arith}
 use Rattle.std.specs.Prelude.{IsTrue, Ok, Err}
 use Rattle.std.specs.FinMap as map_
 use Rattle.std.specs.List.{flat_map, list_any}
@@ -16,10 +16,10 @@ use Rattle.sasi_layout.proofs.Storable.{none_storable}
 use Rattle.sasi_layout.proofs.Trails.{create_each, create_moves}
 use Rattle.sasi_layout.proofs.MovesInOrder.{moved_in_order}
 use Rattle.sasi_layout.specs.Between.{Between}
-use Rattle.sasi_layout.specs.Kept.{HasKept, has_segment, is_kept}
+use Rattle.sasi_layout.specs.Kept.{HasKeptBeside, has_segment, is_kept}
 use Rattle.sasi_layout.specs.Layout.{Layout, TableParts, listing_of, state_of}
 use Rattle.sasi_layout.specs.Moves.{Create, after_create, create_edits, new_parts}
-use Rattle.sasi_layout.specs.Serving.{CanChange, IsTyped, Serves, StoreInMemory, TableInMemory, kept_by, table_in_memory}
+use Rattle.sasi_layout.specs.Serving.{CanChange, HasExactlyBeside, IsTyped, Serves, StoreInMemory, TableInMemory, kept_by, table_in_memory}
 use Rattle.sasi_layout.specs.NumbersInOrder.{HasFilesInOrder, HasIndexesNumbered}
 use Rattle.sasi_machine.proofs.TableColumns.{small}
 use Rattle.sasi_machine.proofs.MaxTimestamps.{max_timestamp_push, nothing_held}
@@ -145,6 +145,27 @@ module _ (a b : View) (sound : IsSound a) (store : StoreInMemory) (t : Table) (r
       tables_are : next.tables ≡ listing.tables ++ row_with [] ∷ []
       tables_are = cc
 
+  same_kept : (new : ManifestState) (name : FileName) → new.number ≡ store.manifest.number → new.listing.floor ≡ listing.floor → new.listing.last ≡ listing.last
+      → new.listing.tables ≡ listing.tables ++ record { definition = definition t; numbers = []; since = listing.last; files = [] } ∷ [] → is_kept (record { manifest = new.number; listing = new.listing }) name ≡ is_kept (kept_by store) name
+  same_kept new name number floor last tables =
+      let kept_files : has_name new.listing.tables name ≡ has_name listing.tables name =
+      ap (λ (ts : List ListedDefinition). has_name ts name) tables
+      ∙ ap (list_any (name_eq name)) (parts_push (λ (t : ListedDefinition). flat_map names_of t.files) listing.tables (record { definition = definition t; numbers = []; since = listing.last; files = [] }) refl) in
+      λ i. name_eq name (manifest_name (number i)) || (name_eq name (seal_name (number i)) || (has_segment (floor i) (last i) name || kept_files i))
+
+  kept_same : (new : ManifestState) → new.number ≡ store.manifest.number → new.listing.floor ≡ listing.floor → new.listing.last ≡ listing.last
+      → new.listing.tables ≡ listing.tables ++ record { definition = definition t; numbers = []; since = listing.last; files = [] } ∷ [] → (aside : FileName → Bool) (folder : Folder) → HasKeptBeside aside (kept_by store) folder → HasKeptBeside aside (record { manifest = new.number; listing = new.listing }) folder
+  kept_same new number floor last tables aside folder has name = has name ∙ ap (λ b. aside name || b) (sym (same_kept new name number floor last tables))
+
+  -- no other file comes
+  pub create_exactly : (new : ManifestState) → Changes (FileChange (manifest_name store.manifest.number) AnyChange) a b → new.number ≡ store.manifest.number → IsNext listing (edits_for store t) new.listing
+      → Reaches b (manifest_name new.number) (new.at + 1) → (aside : FileName → Bool) → HasExactlyBeside a aside store → HasExactlyBeside b aside (memory_after_create t new store)
+  create_exactly new change number is room aside has folder files =
+      let listed = listed_after new.listing is in
+      kept_same new number listed.1 listed.2 listed.3 aside folder
+      (changed_kept a b aside (kept_by store) (manifest_name store.manifest.number) (keeps_manifest (kept_by store)) change
+      (reached_there b (manifest_name store.manifest.number) (new.at + 1) (subst (λ (n : ℕ). Reaches b (manifest_name n) (new.at + 1)) number room)) has folder files)
+
   -- **It is ready after it.**
   pub create_ready : (new : ManifestState) → Changes (FileChange (manifest_name store.manifest.number) AnyChange) a b → new.number ≡ store.manifest.number → IsNext listing (edits_for store t) new.listing
       → (ManifestStands a store.manifest.number store.manifest.at listing → ManifestStands b store.manifest.number new.at new.listing)
@@ -173,9 +194,9 @@ module _ (a b : View) (sound : IsSound a) (store : StoreInMemory) (t : Table) (r
         manifest_usable = usable;
         log_usable = ready.log_usable;
         stands = λ told. subst (λ (k : ℕ). ManifestStands b k new.at new.listing) (sym number) (stands (ready.stands (told_before (FileChange (manifest_name store.manifest.number) AnyChange) a b change told)));
-        kept = λ folder files. kept_same new number listed.1 listed.2 listed.3 folder
-            (changed_kept a b (kept_by store) (manifest_name store.manifest.number) (keeps_manifest (kept_by store)) change
-            (reached_there b (manifest_name store.manifest.number) (new.at + 1) (subst (λ (n : ℕ). Reaches b (manifest_name n) (new.at + 1)) number room)) ready.kept folder files);
+        aside = ready.aside;
+        aside_are = ready.aside_are;
+        exactly = create_exactly new change number is room ready.aside ready.exactly;
       }
     where
       apart : store.log.file ≢ manifest_name store.manifest.number
@@ -184,24 +205,13 @@ module _ (a b : View) (sound : IsSound a) (store : StoreInMemory) (t : Table) (r
       typed : IsTyped (definition t)
       typed = record { types = column_types_are (definition t) t.key_is_there; few = (small (definition t) t.key_is_there t.few).types }
 
-      same_kept : (new : ManifestState) (name : FileName) → new.number ≡ store.manifest.number → new.listing.floor ≡ listing.floor → new.listing.last ≡ listing.last
-          → new.listing.tables ≡ listing.tables ++ record { definition = definition t; numbers = []; since = listing.last; files = [] } ∷ [] → is_kept (record { manifest = new.number; listing = new.listing }) name ≡ is_kept (kept_by store) name
-      same_kept new name number floor last tables =
-          let kept_files : has_name new.listing.tables name ≡ has_name listing.tables name =
-          ap (λ (ts : List ListedDefinition). has_name ts name) tables
-          ∙ ap (list_any (name_eq name)) (parts_push (λ (t : ListedDefinition). flat_map names_of t.files) listing.tables (record { definition = definition t; numbers = []; since = listing.last; files = [] }) refl) in
-          λ i. name_eq name (manifest_name (number i)) || (name_eq name (seal_name (number i)) || (has_segment (floor i) (last i) name || kept_files i))
-
-      kept_same : (new : ManifestState) → new.number ≡ store.manifest.number → new.listing.floor ≡ listing.floor → new.listing.last ≡ listing.last
-          → new.listing.tables ≡ listing.tables ++ record { definition = definition t; numbers = []; since = listing.last; files = [] } ∷ [] → (folder : Folder) → HasKept (kept_by store) folder → HasKept (record { manifest = new.number; listing = new.listing }) folder
-      kept_same new number floor last tables folder has name = has name ∙ sym (same_kept new name number floor last tables)
-
 module _ (a b : View) (sound : IsSound a) (store : StoreInMemory) (t : Table) (ready : CanChange a store) (creatable : IsCreatable store t) where
   abbrev pub Moments : Type 0
   Moments = (next : Listing) → IsNext store.manifest.listing (edits_for store t) next → ManifestStands a store.manifest.number store.manifest.at store.manifest.listing → Changes (FileChange (manifest_name store.manifest.number) (LeftWith (IsEither store.manifest.number store.manifest.listing next))) a b
 
   pub create_stopped : {T : Type 0} (new : StoreInMemory) (e : StepFault) → Moments → Changes (FileChange (manifest_name store.manifest.number) AnyChange) a b → b.reads ≡ a.reads → IsPlain e → StepCauses {T = T} a b (Err e) → MakesMoves {T = T} (λ l. Create (definition t) ∷ []) a b store new (Err e)
   create_stopped new e moments change reads plain causes = record {
+    exactly = tt;
     any_moment = create_moment a b sound store t ready creatable moments;
     serves = tt;
     ready = tt;
@@ -210,8 +220,9 @@ module _ (a b : View) (sound : IsSound a) (store : StoreInMemory) (t : Table) (r
     undamaged = plain_undamaged e plain;
     present = plain_present _ e plain;
     changes = any_change (FileChange (manifest_name store.manifest.number) AnyChange) a b change;
-    files_stay = other_stays store.manifest.listing (manifest_name store.manifest.number) (omega arith) a b change;
+    files_stay = other_stays store.used.«data» (manifest_name store.manifest.number) (omega arith) a b change;
     listed_stay = tt;
+    numbers_stay = tt;
     reads = reads;
     causes = causes;
   }
@@ -220,6 +231,7 @@ module _ (a b : View) (sound : IsSound a) (store : StoreInMemory) (t : Table) (r
       → (ManifestStands a store.manifest.number store.manifest.at store.manifest.listing → ManifestStands b store.manifest.number new.at new.listing)
       → Reaches b (manifest_name new.number) (new.at + 1) → IsTrue new.usable → b.reads ≡ a.reads → StepCauses {T = T} a b (Ok x) → MakesMoves {T = T} (λ l. Create (definition t) ∷ []) a b store (memory_after_create t new store) (Ok x)
   create_made x new moments change number is stands room usable reads causes = record {
+    exactly = λ aside are has. (are, create_exactly a b sound store t ready creatable new change number is room aside has);
     any_moment = create_moment a b sound store t ready creatable moments;
     serves = create_serves a b sound store t ready creatable new change number is stands;
     ready = create_ready a b sound store t ready creatable new change number is stands room usable;
@@ -228,8 +240,9 @@ module _ (a b : View) (sound : IsSound a) (store : StoreInMemory) (t : Table) (r
     undamaged = tt;
     present = tt;
     changes = any_change (FileChange (manifest_name store.manifest.number) AnyChange) a b change;
-    files_stay = other_stays store.manifest.listing (manifest_name store.manifest.number) (omega arith) a b change;
-    listed_stay = keeps_created _ store.manifest.listing new.listing (listed_after a b sound store t ready creatable new.listing is).3;
+    files_stay = other_stays store.used.«data» (manifest_name store.manifest.number) (omega arith) a b change;
+    listed_stay = keeps_created store.used.«data» (record { definition = definition t; numbers = []; since = store.manifest.listing.last; files = [] }) store.manifest.listing new.listing refl (listed_after a b sound store t ready creatable new.listing is).0 (listed_after a b sound store t ready creatable new.listing is).3;
+    numbers_stay = omega arith;
     reads = reads;
     causes = causes;
   }

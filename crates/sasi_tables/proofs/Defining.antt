@@ -1,5 +1,5 @@
 -- An index that a store lists and adds to its table.
-use Rattle.std.proofs.Common.{◌≡◌, ◌≢◌, ◌||◌, true, false, cond, ℕ, zero, suc, ◌+◌, ◌-◌, ◌<◌, ◌≤◌, ◌^◌, nat_eq, List, [], ◌∷◌, ◌++◌, map, slice_get, Option, None, Some, refl, sym, ap, subst, ◌∙◌, arith}
+use Rattle.std.proofs.Common.{◌≡◌, ◌≢◌, ◌||◌, Bool, true, false, cond, ℕ, zero, suc, ◌+◌, ◌-◌, ◌<◌, ◌≤◌, ◌^◌, nat_eq, List, [], ◌∷◌, ◌++◌, map, slice_get, Option, None, Some, refl, sym, ap, subst, ◌∙◌, arith}
 use Rattle.std.specs.Prelude.{IsTrue, Ok, Err}
 use Rattle.std.specs.List.{AllByRecursion, flat_map, list_any}
 use Rattle.std.specs.Option.{option_map_or}
@@ -15,11 +15,11 @@ use Rattle.sasi_layout.proofs.Defines.{define_each, define_is_next, define_moves
 use Rattle.sasi_layout.proofs.Numbered.{all_changed, seen_at, unseen_at}
 use Rattle.sasi_layout.proofs.MovesInOrder.{moved_in_order}
 use Rattle.sasi_layout.specs.Between.{Between}
-use Rattle.sasi_layout.specs.Kept.{HasKept, has_segment, is_kept}
+use Rattle.sasi_layout.specs.Kept.{HasKeptBeside, has_segment, is_kept}
 use Rattle.sasi_layout.specs.Layout.{Layout, TableParts, Used, listing_of, numbered, state_of}
 use Rattle.sasi_layout.specs.Moves.{Define, after_define, define_edits, define_table}
 use Rattle.sasi_layout.specs.NumbersInOrder.{HasFilesInOrder, HasIndexesNumbered}
-use Rattle.sasi_layout.specs.Serving.{AreTablesReady, CanChange, IsTableReady, Serves, StoreInMemory, TableInMemory, kept_by, table_in_memory}
+use Rattle.sasi_layout.specs.Serving.{AreTablesReady, CanChange, HasExactlyBeside, IsTableReady, Serves, StoreInMemory, TableInMemory, kept_by, table_in_memory}
 use Rattle.sasi_layout.specs.Spent.{first_spent}
 use Rattle.sasi_layout.specs.declared.number_kind.NumberKind.{NumberKind}
 use Rattle.sasi_layout.specs.declared.number_kind.NumberKind.TheVariants as kinds
@@ -168,6 +168,27 @@ module _ (a b : View) (sound : IsSound a) (store : StoreInMemory) (new : NewInde
       × (next.tables ≡ at_number 1 new.table (listed_with_index (numbered_def next_number new)) listing.tables)
   listed_after next is = (cc, cc, cc, cc)
 
+  same_kept : (made : ManifestState) (name : FileName) → made.number ≡ store.manifest.number → made.listing.floor ≡ listing.floor → made.listing.last ≡ listing.last
+      → made.listing.tables ≡ at_number 1 new.table (listed_with_index (numbered_def next_number new)) listing.tables → is_kept (record { manifest = made.number; listing = made.listing }) name ≡ is_kept (kept_by store) name
+  same_kept made name number floor last tables =
+      let kept_files : has_name made.listing.tables name ≡ has_name listing.tables name =
+      ap (λ (ts : List ListedDefinition). has_name ts name) tables
+      ∙ ap (list_any (name_eq name)) (parts_same (λ (t : ListedDefinition). flat_map names_of t.files) (listed_with_index (numbered_def next_number new)) (λ t. refl) 1 new.table listing.tables) in
+      λ i. name_eq name (manifest_name (number i)) || (name_eq name (seal_name (number i)) || (has_segment (floor i) (last i) name || kept_files i))
+
+  kept_same : (made : ManifestState) → made.number ≡ store.manifest.number → made.listing.floor ≡ listing.floor → made.listing.last ≡ listing.last
+      → made.listing.tables ≡ at_number 1 new.table (listed_with_index (numbered_def next_number new)) listing.tables → (aside : FileName → Bool) (folder : Folder) → HasKeptBeside aside (kept_by store) folder → HasKeptBeside aside (record { manifest = made.number; listing = made.listing }) folder
+  kept_same made number floor last tables aside folder has name = has name ∙ ap (λ b. aside name || b) (sym (same_kept made name number floor last tables))
+
+  -- no other file comes
+  pub define_exactly : (made : ManifestState) → Changes (FileChange (manifest_name store.manifest.number) AnyChange) a b → made.number ≡ store.manifest.number → IsNext listing edits made.listing
+      → Reaches b (manifest_name made.number) (made.at + 1) → (aside : FileName → Bool) → HasExactlyBeside a aside store → HasExactlyBeside b aside (memory_after_define new made store)
+  define_exactly made change number is room aside has folder files =
+      let listed = listed_after made.listing is in
+      kept_same made number listed.1 listed.2 listed.3 aside folder
+      (changed_kept a b aside (kept_by store) (manifest_name store.manifest.number) (keeps_manifest (kept_by store)) change
+      (reached_there b (manifest_name store.manifest.number) (made.at + 1) (subst (λ (n : ℕ). Reaches b (manifest_name n) (made.at + 1)) number room)) has folder files)
+
   -- **It is ready after it.**
   pub define_ready : (made : ManifestState) → Changes (FileChange (manifest_name store.manifest.number) AnyChange) a b → made.number ≡ store.manifest.number → IsNext listing edits made.listing
       → (ManifestStands a store.manifest.number store.manifest.at listing → ManifestStands b store.manifest.number made.at made.listing)
@@ -197,9 +218,9 @@ module _ (a b : View) (sound : IsSound a) (store : StoreInMemory) (new : NewInde
         manifest_usable = usable;
         log_usable = ready.log_usable;
         stands = λ told. subst (λ (k : ℕ). ManifestStands b k made.at made.listing) (sym number) (stands (ready.stands (told_before (FileChange (manifest_name store.manifest.number) AnyChange) a b change told)));
-        kept = λ folder files. kept_same made number listed.1 listed.2 listed.3 folder
-            (changed_kept a b (kept_by store) (manifest_name store.manifest.number) (keeps_manifest (kept_by store)) change
-            (reached_there b (manifest_name store.manifest.number) (made.at + 1) (subst (λ (n : ℕ). Reaches b (manifest_name n) (made.at + 1)) number room)) ready.kept folder files);
+        aside = ready.aside;
+        aside_are = ready.aside_are;
+        exactly = define_exactly made change number is room ready.aside ready.exactly;
       }
     where
       apart : store.log.file ≢ manifest_name store.manifest.number
@@ -217,24 +238,13 @@ module _ (a b : View) (sound : IsSound a) (store : StoreInMemory) (new : NewInde
         tables_ready (suc n) ds ts are.1,
       )
 
-      same_kept : (made : ManifestState) (name : FileName) → made.number ≡ store.manifest.number → made.listing.floor ≡ listing.floor → made.listing.last ≡ listing.last
-          → made.listing.tables ≡ at_number 1 new.table (listed_with_index (numbered_def next_number new)) listing.tables → is_kept (record { manifest = made.number; listing = made.listing }) name ≡ is_kept (kept_by store) name
-      same_kept made name number floor last tables =
-          let kept_files : has_name made.listing.tables name ≡ has_name listing.tables name =
-          ap (λ (ts : List ListedDefinition). has_name ts name) tables
-          ∙ ap (list_any (name_eq name)) (parts_same (λ (t : ListedDefinition). flat_map names_of t.files) (listed_with_index (numbered_def next_number new)) (λ t. refl) 1 new.table listing.tables) in
-          λ i. name_eq name (manifest_name (number i)) || (name_eq name (seal_name (number i)) || (has_segment (floor i) (last i) name || kept_files i))
-
-      kept_same : (made : ManifestState) → made.number ≡ store.manifest.number → made.listing.floor ≡ listing.floor → made.listing.last ≡ listing.last
-          → made.listing.tables ≡ at_number 1 new.table (listed_with_index (numbered_def next_number new)) listing.tables → (folder : Folder) → HasKept (kept_by store) folder → HasKept (record { manifest = made.number; listing = made.listing }) folder
-      kept_same made number floor last tables folder has name = has name ∙ sym (same_kept made name number floor last tables)
-
   abbrev pub Moments : Type 0
   Moments = (next : Listing) → IsNext listing edits next → ManifestStands a store.manifest.number store.manifest.at listing → Changes (FileChange (manifest_name store.manifest.number) (LeftWith (IsEither store.manifest.number listing next))) a b
 
   pub define_stopped : {T : Type 0} (after : StoreInMemory) (e : StepFault) → Moments → Changes (FileChange (manifest_name store.manifest.number) AnyChange) a b → b.reads ≡ a.reads → IsPlain e → StepCauses {T = T} a b (Err e)
       → MakesMoves {T = T} (λ l. Define new.table index ∷ []) a b store after (Err e)
   define_stopped after e moments change reads plain causes = record {
+    exactly = tt;
     any_moment = define_moment moments;
     serves = tt;
     ready = tt;
@@ -243,8 +253,9 @@ module _ (a b : View) (sound : IsSound a) (store : StoreInMemory) (new : NewInde
     undamaged = plain_undamaged e plain;
     present = plain_present _ e plain;
     changes = any_change (FileChange (manifest_name store.manifest.number) AnyChange) a b change;
-    files_stay = other_stays listing (manifest_name store.manifest.number) (omega arith) a b change;
+    files_stay = other_stays store.used.«data» (manifest_name store.manifest.number) (omega arith) a b change;
     listed_stay = tt;
+    numbers_stay = tt;
     reads = reads;
     causes = causes;
   }
@@ -253,6 +264,7 @@ module _ (a b : View) (sound : IsSound a) (store : StoreInMemory) (new : NewInde
       → (ManifestStands a store.manifest.number store.manifest.at listing → ManifestStands b store.manifest.number made.at made.listing)
       → Reaches b (manifest_name made.number) (made.at + 1) → IsTrue made.usable → b.reads ≡ a.reads → StepCauses {T = T} a b (Ok x) → MakesMoves {T = T} (λ l. Define new.table index ∷ []) a b store (memory_after_define new made store) (Ok x)
   define_made x made unspent moments change number is stands room usable reads causes = record {
+    exactly = λ aside are has. (are, define_exactly made change number is room aside has);
     any_moment = define_moment moments;
     serves = define_serves made change number is stands;
     ready = define_ready made change number is stands room usable;
@@ -261,8 +273,9 @@ module _ (a b : View) (sound : IsSound a) (store : StoreInMemory) (new : NewInde
     undamaged = tt;
     present = tt;
     changes = any_change (FileChange (manifest_name store.manifest.number) AnyChange) a b change;
-    files_stay = other_stays listing (manifest_name store.manifest.number) (omega arith) a b change;
-    listed_stay = keeps_defined (numbered_def next_number new) new.table listing made.listing (listed_after made.listing is).3;
+    files_stay = other_stays store.used.«data» (manifest_name store.manifest.number) (omega arith) a b change;
+    listed_stay = keeps_defined store.used.«data» (numbered_def next_number new) new.table listing made.listing (listed_after made.listing is).0 (listed_after made.listing is).3;
+    numbers_stay = omega arith;
     reads = reads;
     causes = causes;
   }

@@ -13,6 +13,7 @@ use Rattle.sasi_host.specs.View.{IsSound, ListCauses, Reaches, View}
 use Rattle.sasi_layout.specs.Between.{Between}
 use Rattle.sasi_layout.specs.Layout.{Layout, Used}
 use Rattle.sasi_layout.specs.Moves.{Flush, flush_parts, new_listed_file}
+use Rattle.sasi_layout.proofs.KeptLaws.{aside_higher}
 use Rattle.sasi_layout.specs.Serving.{AreStorable, CanChange, IsTableReady, Serves, StoreInMemory, TableInMemory}
 use Rattle.sasi_layout.specs.Spent.{first_spent, part_draws, spent}
 use Rattle.sasi_cells.specs.Maps.{merged}
@@ -50,7 +51,7 @@ use Rattle.sasi_tables.specs.TablesView.{AreTables, IsOfParts, held_in, memory_o
 use Rattle.sasi_tables.specs.declared.fault.StepFault.TheVariants.{NumbersSpent, OutOfMemory}
 use Rattle.sasi_tables.specs.declared.flush.FlushNumbers.{FlushNumbers}
 use Rattle.sasi_tables.specs.declared.parts.Parts.{Parts}
-use Rattle.sasi_tables.proofs.FlushingTables.{can_flush, flush_of, flush_ready, flush_serves, listed_after}
+use Rattle.sasi_tables.proofs.FlushingTables.{can_flush, flush_exactly, flush_of, flush_ready, flush_serves, inside, listed_after}
 use Rattle.sasi_tables.proofs.ListedFrames.{flush_stays, keeps_flushed}
 use Rattle.sasi_tables.proofs.MoveCauses.{any_change, call_failed, call_made, call_plain, made_then_full, makes_nothing, plain_present, plain_undamaged, plain_unspent}
 use Rattle.sasi_tables.proofs.TablesInMemory.{all_set, inside_there, map_there, ready_in_memory, set_numbered, there_inside, unseen_set}
@@ -159,6 +160,9 @@ module _ (a : View) (sound : IsSound a) (p : Parts) (of : IsOfParts p) (ready : 
   pub partitioner_after : (manifest : ManifestState) → IsNext p.manifest.listing (edit_of numbers parts ∷ []) manifest.listing → manifest.listing.partitioner ≡ p.manifest.listing.partitioner
   partitioner_after manifest listed = (listed_after a (memory_of p) ready numbers whole held is.file last_is floor_is fits whole_is refl parts fit manifest.listing listed).0
 
+  within : number ≤ length p.manifest.listing.tables
+  within = inside a (memory_of p) ready numbers whole held is.file last_is floor_is fits whole_is refl parts fit
+
   pub tables_after : (manifest : ManifestState) → IsNext p.manifest.listing (edit_of numbers parts ∷ []) manifest.listing → manifest.listing.tables ≡ at_number 1 number (replaced [] (new_listed_file next.«data» parts ∷ []) next.log) p.manifest.listing.tables
   tables_after manifest listed = (listed_after a (memory_of p) ready numbers whole held is.file last_is floor_is fits whole_is refl parts fit manifest.listing listed).3
 
@@ -170,6 +174,7 @@ module _ (a : View) (sound : IsSound a) (p : Parts) (of : IsOfParts p) (ready : 
     -- a call failed, or memory ran out
     pub flush_stopped : {T U : Type 0} (new : StoreInMemory) (f : HostFault) → ListCauses {T = T} a b (Err f) → MakesMoves {T = U} (λ l. Flush number ∷ []) a b (memory_of p) new (Err (fault_of_call f))
     flush_stopped new f causes = record {
+      exactly = tt;
       any_moment = λ l serves. moments l (serves.older ++ serves.current ∷ []) (flush_at l serves);
       serves = tt;
       ready = tt;
@@ -178,8 +183,9 @@ module _ (a : View) (sound : IsSound a) (p : Parts) (of : IsOfParts p) (ready : 
       undamaged = plain_undamaged (fault_of_call f) (call_plain f);
       present = plain_present _ (fault_of_call f) (call_plain f);
       changes = any_change (ChangesInFlush p.manifest.number p.manifest.listing.floor numbers parts) a b change;
-      files_stay = flush_stays a (memory_of p) ready p.manifest.listing.floor numbers parts is.file a b change;
+      files_stay = flush_stays p.manifest.number p.numbers.«data» p.manifest.listing.floor numbers parts is.file a b change;
       listed_stay = tt;
+      numbers_stay = tt;
       reads = causes.reads;
       causes = call_failed a b f causes;
     }
@@ -187,6 +193,7 @@ module _ (a : View) (sound : IsSound a) (p : Parts) (of : IsOfParts p) (ready : 
     -- the flush was made, and then memory ran out
     pub flush_unfinished : {T U : Type 0} (new : StoreInMemory) (x : T) → ListCauses {T = T} a b (Ok x) → MakesMoves {T = U} (λ l. Flush number ∷ []) a b (memory_of p) new (Err OutOfMemory)
     flush_unfinished new x causes = record {
+      exactly = tt;
       any_moment = λ l serves. moments l (serves.older ++ serves.current ∷ []) (flush_at l serves);
       serves = tt;
       ready = tt;
@@ -195,8 +202,9 @@ module _ (a : View) (sound : IsSound a) (p : Parts) (of : IsOfParts p) (ready : 
       undamaged = tt;
       present = tt;
       changes = any_change (ChangesInFlush p.manifest.number p.manifest.listing.floor numbers parts) a b change;
-      files_stay = flush_stays a (memory_of p) ready p.manifest.listing.floor numbers parts is.file a b change;
+      files_stay = flush_stays p.manifest.number p.numbers.«data» p.manifest.listing.floor numbers parts is.file a b change;
       listed_stay = tt;
+      numbers_stay = tt;
       reads = causes.reads;
       causes = made_then_full a b x causes;
     }
@@ -209,6 +217,10 @@ module _ (a : View) (sound : IsSound a) (p : Parts) (of : IsOfParts p) (ready : 
         → (ManifestStands a p.manifest.number p.manifest.at p.manifest.listing → ManifestStands b manifest.number manifest.at manifest.listing)
         → ListCauses {T = T} a b (Ok x) → MakesMoves {T = U} (λ l. Flush number ∷ []) a b (memory_of p) (memory_after_flush number parts manifest log (memory_of p)) (Ok y)
     flush_made x y manifest log flushed listed same room usable file log_room log_usable files stands causes = record {
+      exactly = λ aside are own. (
+        aside_higher p.numbers.«data» (suc p.numbers.«data») aside (omega arith) are,
+        flush_exactly a (memory_of p) ready numbers whole held is.file last_is floor_is fits whole_is refl parts fit b manifest log listed same room change files aside are own,
+      );
       any_moment = λ l serves. moments l (serves.older ++ serves.current ∷ []) (flush_at l serves);
       serves = λ l serves. flush_serves a (memory_of p) ready numbers whole held is.file last_is floor_is fits whole_is refl parts fit b l serves manifest log change same file (has.parts_are l serves) (flushed l (serves.older ++ serves.current ∷ []) (flush_at l serves));
       ready = flush_ready a (memory_of p) ready numbers whole held is.file last_is floor_is fits whole_is refl parts fit b manifest log listed same room usable file log_room log_usable change files stands;
@@ -217,8 +229,10 @@ module _ (a : View) (sound : IsSound a) (p : Parts) (of : IsOfParts p) (ready : 
       undamaged = tt;
       present = tt;
       changes = any_change (ChangesInFlush p.manifest.number p.manifest.listing.floor numbers parts) a b change;
-      files_stay = flush_stays a (memory_of p) ready p.manifest.listing.floor numbers parts is.file a b change;
-      listed_stay = keeps_flushed (new_listed_file next.«data» parts) next.log number p.manifest.listing manifest.listing (tables_after manifest listed);
+      files_stay = flush_stays p.manifest.number p.numbers.«data» p.manifest.listing.floor numbers parts is.file a b change;
+      listed_stay = keeps_flushed p.numbers.«data» p.manifest.listing.last (new_listed_file next.«data» parts) next.log number p.manifest.listing manifest.listing is.file ready.numbered.files held.some (omega (arith, within))
+          (partitioner_after manifest listed) (tables_after manifest listed);
+      numbers_stay = omega arith;
       reads = causes.reads;
       causes = call_made a b x y causes;
     }

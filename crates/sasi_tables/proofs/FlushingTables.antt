@@ -14,8 +14,8 @@ use Rattle.sasi_cells.specs.Maps.{merged}
 use Rattle.sasi_cells.specs.declared.mutation.Mutation.{Mutation}
 use Rattle.sasi_gated.specs.Handles.{Handle}
 use Rattle.sasi_layout.proofs.FileNameLaws.{all_names, names_flushed, unlisted_above}
-use Rattle.sasi_layout.proofs.KeptLaws.{dead_segment, free_name, kept_there, keeps_listed, keeps_manifest, keeps_segment, number_above}
-use Rattle.sasi_layout.proofs.KeptOn.{flush_turns, kept_on}
+use Rattle.sasi_layout.proofs.KeptLaws.{aside_higher, aside_kind, aside_number, dead_segment, free_name, kept_there, keeps_listed, keeps_manifest, keeps_segment, number_above}
+use Rattle.sasi_layout.proofs.KeptOn.{dropped_apart, flush_turns, kept_on}
 use Rattle.sasi_layout.proofs.LayoutLaws.{flush_state}
 use Rattle.sasi_commitlog.specs.LogPosition.{IsAtLogEnd}
 use Rattle.sasi_layout.proofs.ListingLaws.{rising_bound}
@@ -24,10 +24,10 @@ use Rattle.sasi_layout.proofs.Numbered.{all_changed, seen_at, unseen_at}
 use Rattle.sasi_layout.proofs.Storable.{none_storable}
 use Rattle.sasi_layout.proofs.MovesInOrder.{moved_in_order}
 use Rattle.sasi_layout.specs.Flushed.{flush_drops, flush_makes}
-use Rattle.sasi_layout.specs.Kept.{HasKept, Kept}
+use Rattle.sasi_layout.specs.Kept.{AreAside, HasKeptBeside, Kept}
 use Rattle.sasi_layout.specs.Layout.{Layout, TableParts, Used, listing_of, unflushed}
 use Rattle.sasi_layout.specs.Moves.{Flush, after_flush, flush_parts, flush_table, floor_without, lesser, next_floor}
-use Rattle.sasi_layout.specs.Serving.{AreStorable, AreTablesReady, CanChange, IsLive, IsTableReady, Serves, StoreInMemory, TableInMemory, kept_by, table_in_memory}
+use Rattle.sasi_layout.specs.Serving.{AreStorable, AreTablesReady, CanChange, HasExactlyBeside, IsLive, IsTableReady, Serves, StoreInMemory, TableInMemory, kept_by, table_in_memory}
 use Rattle.sasi_layout.specs.NumbersInOrder.{HasFilesInOrder, HasIndexesNumbered, Rising}
 use Rattle.sasi_manifest.proofs.Applying.{replace_applies}
 use Rattle.sasi_manifest.proofs.Consistency.{record_consistent}
@@ -156,7 +156,8 @@ module _ (a : View) (store : StoreInMemory) (ready : CanChange a store) (n : Flu
   abbrev pub kept : Kept
   kept = kept_by store
 
-  inside : n.table ≤ length listing.tables
+  -- the table is one of the listed ones
+  pub inside : n.table ≤ length listing.tables
   inside =
       let count = as_many listing.partitioner listing.floor listing.last store.definitions store.tables ready.tables in
       let definitions : length store.definitions ≡ length listing.tables = ap length ready.definitions ∙ length-map listing.tables (λ (t : ListedDefinition). t.definition) in
@@ -204,9 +205,9 @@ module _ (a : View) (store : StoreInMemory) (ready : CanChange a store) (n : Flu
   -- **The flush can be made.**
   pub can_flush : CanFlush a store.manifest m n parts
   can_flush = record {
-    files = all_names (λ name. IsAbsent a name) (file_of n parts) (λ name kind own. free_name a kept name ready.kept (keeps_listed kept name kind ∙ new_name name own));
-    segment = free_name a kept (log_name n.last) ready.kept (dead_segment kept n.last (inr (omega (arith, last))));
-    former = λ segment above under. kept_there a kept (log_name segment) ready.kept (keeps_segment kept segment above (omega (arith, under, below, last)));
+    files = all_names (λ name. IsAbsent a name) (file_of n parts) (λ name kind own. free_name a ready.aside kept name ready.exactly (aside_number store.used.«data» ready.aside name ready.aside_are (omega (arith, file, own))) (keeps_listed kept name kind ∙ new_name name own));
+    segment = free_name a ready.aside kept (log_name n.last) ready.exactly (aside_kind store.used.«data» ready.aside (log_name n.last) ready.aside_are (omega arith)) (dead_segment kept n.last (inr (omega (arith, last))));
+    former = λ segment above under. kept_there a ready.aside kept (log_name segment) ready.exactly (keeps_segment kept segment above (omega (arith, under, below, last)));
     room = ready.manifest_room;
     usable = ready.manifest_usable;
     partitioner = under;
@@ -239,21 +240,22 @@ module _ (a : View) (store : StoreInMemory) (ready : CanChange a store) (n : Flu
         (λ t numbered. record { counted = numbered.counted; within = numbered.within }) (λ t numbered. numbered) 1 n.table listing.tables ready.numbered.indexes)
 
     -- the files of the folder afterwards
-    pub next_kept : (b : View) (manifest : ManifestState) → manifest.listing ≡ next → manifest.number ≡ store.manifest.number → Changes (ChangesInFlush store.manifest.number listing.floor n parts) a b → HasFlushedFiles b listing.floor n parts
-        → Reaches b (manifest_name manifest.number) (manifest.at + 1) → (folder : Folder) → b.files ≡ Some folder → HasKept (record { manifest = manifest.number; listing = manifest.listing }) folder
-    next_kept b manifest listed number change flushed room folder files =
+    next_kept : (b : View) (manifest : ManifestState) (aside : FileName → Bool) → AreAside store.used.«data» aside → HasExactlyBeside a aside store → manifest.listing ≡ next → manifest.number ≡ store.manifest.number → Changes (ChangesInFlush store.manifest.number listing.floor n parts) a b → HasFlushedFiles b listing.floor n parts
+        → Reaches b (manifest_name manifest.number) (manifest.at + 1) → (folder : Folder) → b.files ≡ Some folder → HasKeptBeside aside (record { manifest = manifest.number; listing = manifest.listing }) folder
+    next_kept b manifest aside are has listed number change flushed room folder files =
         let was = told_files a (told_before (ChangesInFlush store.manifest.number listing.floor n parts) a b change (ap (λ (o : Option Folder). is_some o) files)) in
-        let before : IsThere a (manifest_name store.manifest.number) = kept_there a kept (manifest_name store.manifest.number) ready.kept (keeps_manifest kept) in
+        let before : IsThere a (manifest_name store.manifest.number) = kept_there a aside kept (manifest_name store.manifest.number) has (keeps_manifest kept) in
         let after : IsThere b (manifest_name store.manifest.number) = subst (λ (k : ℕ). IsThere b (manifest_name k)) number (λ told. (let there = room told in ap (λ (o : Option Bytes). is_some o) there.1)) in
         let turned = flush_turned n parts store.manifest.number listing.floor a b was.0 folder was.1 files before after flushed change in
-        subst (λ (k : ℕ). HasKept (record { manifest = k; listing = manifest.listing }) folder) (sym number)
-        (subst (λ (e : Listing). HasKept (record { manifest = store.manifest.number; listing = e }) folder) (sym listed)
-        (kept_on (flush_makes (file_of n parts) next.last) (flush_drops listing.floor next.floor) kept (record { manifest = store.manifest.number; listing = next }) was.0 folder
+        subst (λ (k : ℕ). HasKeptBeside aside (record { manifest = k; listing = manifest.listing }) folder) (sym number)
+        (subst (λ (e : Listing). HasKeptBeside aside (record { manifest = store.manifest.number; listing = e }) folder) (sym listed)
+        (kept_on (flush_makes (file_of n parts) next.last) (flush_drops listing.floor next.floor) aside kept (record { manifest = store.manifest.number; listing = next }) was.0 folder
+        (λ name goes. dropped_apart store.used.«data» listing.floor next.floor aside name are goes)
         (flush_turns kept (record { manifest = store.manifest.number; listing = next }) (file_of n parts) refl (listed_after.2 ∙ last)
         (subst (λ (k : ℕ). listing.floor ≤ k) (sym listed_after.1) raised)
         (rw (listed_after.1, listed_after.2) below)
         (λ name. ap (λ (ts : List ListedDefinition). has_name ts name) listed_after.3 ∙ names_flushed name (file_of n parts) n.table n.last listing.tables held.some (omega (arith, inside))))
-        (rw (listed_after.1, listed_after.2) turned) (ready.kept was.0 was.1)))
+        (rw (listed_after.1, listed_after.2) turned) (has was.0 was.1)))
 
   -- ---- the layout
 
@@ -316,6 +318,11 @@ module _ (a : View) (store : StoreInMemory) (ready : CanChange a store) (n : Flu
           shape = flushed.shape;
         }
 
+  -- no other file comes than its own
+  pub flush_exactly : (b : View) (manifest : ManifestState) (log : Handle) → IsNext listing (edit_of n parts ∷ []) manifest.listing → manifest.number ≡ store.manifest.number → Reaches b (manifest_name manifest.number) (manifest.at + 1)
+      → Changes (ChangesInFlush store.manifest.number listing.floor n parts) a b → HasFlushedFiles b listing.floor n parts → (aside : FileName → Bool) → AreAside store.used.«data» aside → HasExactlyBeside a aside store → HasExactlyBeside b aside (memory_after_flush n.table parts manifest log store)
+  flush_exactly b manifest log is number room change flushed aside are has = next_kept manifest.listing is b manifest aside are has refl number change flushed room
+
   -- **It is ready after it.**
   pub flush_ready : (b : View) (manifest : ManifestState) (log : Handle) → IsNext listing (edit_of n parts ∷ []) manifest.listing → manifest.number ≡ store.manifest.number → Reaches b (manifest_name manifest.number) (manifest.at + 1) → IsTrue manifest.usable
       → log.file ≡ log_name n.last → Reaches b log.file (log.at + 1) → IsTrue log.usable → Changes (ChangesInFlush store.manifest.number listing.floor n parts) a b → HasFlushedFiles b listing.floor n parts
@@ -341,5 +348,7 @@ module _ (a : View) (store : StoreInMemory) (ready : CanChange a store) (n : Flu
         manifest_usable = usable;
         log_usable = log_usable;
         stands = λ told. stands (ready.stands (told_before (ChangesInFlush store.manifest.number listing.floor n parts) a b change told));
-        kept = next_kept manifest.listing is b manifest refl number change flushed room;
+        aside = ready.aside;
+        aside_are = aside_higher store.used.«data» (suc store.used.«data») ready.aside (omega arith) ready.aside_are;
+        exactly = flush_exactly b manifest log is number room change flushed ready.aside ready.aside_are ready.exactly;
       }

@@ -1,5 +1,5 @@
 -- What stays while a store changes one of its files.
-use Rattle.std.proofs.Common.{◌≡◌, ◌≢◌, ℕ, Bool, true, false, is_some, List, Option, Some, None, refl, sym, ap, subst, ◌∙◌}
+use Rattle.std.proofs.Common.{◌≡◌, ◌≢◌, ◌||◌, ℕ, Bool, true, false, is_some, List, Option, Some, None, refl, sym, ap, subst, ◌∙◌}
 use Rattle.std.specs.FinMap.{get}
 use Rattle.std.specs.Ordering.{eq_by_cmp}
 use Rattle.sasi_host.specs.declared.name.FileName.{FileName}
@@ -14,7 +14,7 @@ use Rattle.sasi_gated.proofs.HandleLaws.{end_stays}
 use Rattle.sasi_manifest.specs.declared.listing.Listing.{Listing}
 use Rattle.sasi_manifest.specs.OpenManifest.{ManifestStands}
 use Rattle.sasi_manifest.proofs.Laws.{manifest_stays}
-use Rattle.sasi_layout.specs.Kept.{HasKept, Kept, is_kept}
+use Rattle.sasi_layout.specs.Kept.{HasKeptBeside, Kept, is_kept, is_kept_beside}
 
 -- ---- gated files
 
@@ -32,13 +32,17 @@ there_some None bytes is = cc
 there_some (Some b) bytes is = refl
 
 -- the folder has the same files, where one of them changes and stays
-step_kept : (k : Kept) (file : FileName) (x y : Folder) → is_kept k file ≡ true → FileChange file AnyChange x y → is_some (get y file) ≡ true → HasKept k x → HasKept k y
-step_kept k file x y kept step there has name = by (eq_by_cmp name_cmp name file) refl
+step_kept : (aside : FileName → Bool) (k : Kept) (file : FileName) (x y : Folder) → is_kept k file ≡ true → FileChange file AnyChange x y → is_some (get y file) ≡ true → HasKeptBeside aside k x → HasKeptBeside aside k y
+step_kept aside k file x y kept step there has name = by (eq_by_cmp name_cmp name file) refl
   where
-    by : (b : Bool) → eq_by_cmp name_cmp name file ≡ b → is_some (get y name) ≡ is_kept k name
+    or_true : (a : Bool) → (a || true) ≡ true
+    or_true true = refl
+    or_true false = refl
+
+    by : (b : Bool) → eq_by_cmp name_cmp name file ≡ b → is_some (get y name) ≡ is_kept_beside aside k name
     by true same =
         let is : name ≡ file = same_name name file same in
-        ap (λ (n : FileName). is_some (get y n)) is ∙ there ∙ sym kept ∙ ap (is_kept k) (sym is)
+        ap (λ (n : FileName). is_some (get y n)) is ∙ there ∙ sym (or_true (aside file)) ∙ ap (λ b. aside file || b) (sym kept) ∙ ap (is_kept_beside aside k) (sym is)
     by false other = ap (λ (o : Option Bytes). is_some o) (step.others name (λ same. both (sym (ap (λ (n : FileName). eq_by_cmp name_cmp n file) same ∙ test_here file) ∙ other))) ∙ has name
       where
         both : true ≡ false → ⊥
@@ -47,13 +51,13 @@ step_kept k file x y kept step there has name = by (eq_by_cmp name_cmp name file
 one_folder : (x y : Folder) → Some x ≡ Some y → x ≡ y
 one_folder x y e = cc
 
-pub changed_kept : (a b : View) (k : Kept) (file : FileName) → is_kept k file ≡ true → Changes (FileChange file AnyChange) a b → ((folder : Folder) → b.files ≡ Some folder → is_some (get folder file) ≡ true)
-    → ((folder : Folder) → a.files ≡ Some folder → HasKept k folder) → (folder : Folder) → b.files ≡ Some folder → HasKept k folder
-changed_kept a b k file kept change there has folder files =
+pub changed_kept : (a b : View) (aside : FileName → Bool) (k : Kept) (file : FileName) → is_kept k file ≡ true → Changes (FileChange file AnyChange) a b → ((folder : Folder) → b.files ≡ Some folder → is_some (get folder file) ≡ true)
+    → ((folder : Folder) → a.files ≡ Some folder → HasKeptBeside aside k folder) → (folder : Folder) → b.files ≡ Some folder → HasKeptBeside aside k folder
+changed_kept a b aside k file kept change there has folder files =
     let was = told_files a (told_before (FileChange file AnyChange) a b change (ap (λ (o : Option Folder). is_some o) files)) in
     let now = change.seen was.0 was.1 in
     let same : now.0 ≡ folder = one_folder now.0 folder (sym now.1 ∙ files) in
-    subst (HasKept k) same (step_kept k file was.0 now.0 kept now.2 (there now.0 now.1) (has was.0 was.1))
+    subst (HasKeptBeside aside k) same (step_kept aside k file was.0 now.0 kept now.2 (there now.0 now.1) (has was.0 was.1))
 
 -- a file that reaches to some offset is there
 pub reached_there : (v : View) (file : FileName) (at : ℕ) → Reaches v file at → (folder : Folder) → v.files ≡ Some folder → is_some (get folder file) ≡ true

@@ -74,7 +74,9 @@ module _ (table : ℕ) (store : StoreInMemory) where
         manifest_usable = ready.manifest_usable;
         stands = ready.stands;
         log_usable = ready.log_usable;
-        kept = ready.kept;
+        aside = ready.aside;
+        aside_are = ready.aside_are;
+        exactly = ready.exactly;
       }
     where
       frozen_ready : (p : Partitioner) (floor last : ℕ) (d : Definition) (t : TableInMemory) → IsTableReady p floor last d t → IsTableReady p floor last d (frozen_in_memory t)

@@ -16,7 +16,7 @@ use Rattle.sasi_tables.specs.Faults.{OnMissing, OnSpent, OnStepDamage, StepCause
 use Rattle.sasi_tables.specs.MakesMoves.{MakesMoves, MovesOf}
 use Rattle.sasi_tables.specs.declared.fault.StepFault.{StepFault}
 use Rattle.sasi_tables.specs.declared.fault.StepFault.TheVariants as fault
-use Rattle.sasi_tables.proofs.ListedFrames.{same_stays}
+use Rattle.sasi_tables.proofs.ListedFrames.{same_used}
 
 -- ---- faults of calls and of memory
 
@@ -81,6 +81,7 @@ any_change S a b change = changes_as a b S AnyFolderChange change (λ x y step. 
 -- memory ran out, or a number was spent, before anything was done
 pub makes_nothing : {T : Type 0} (moves : MovesOf) (v : View) (sound : IsSound v) (old new : StoreInMemory) (e : StepFault) → OnStepDamage (λ _. ⊥) e → OnMissing (λ _. ⊥) e → OnSpent (λ kind. (l : Layout) → Serves v old l → spent l (moves l) ≡ Some kind) e → e ≢ fault.Failed → MakesMoves {T = T} moves v v old new (Err e)
 makes_nothing moves v sound old new e undamaged present spent_is other = record {
+  exactly = tt;
   any_moment = λ l serves. moves_none l v (moves l) sound (λ x now. (_, serves.shape x now));
   serves = tt;
   ready = tt;
@@ -89,8 +90,9 @@ makes_nothing moves v sound old new e undamaged present spent_is other = record 
   undamaged = undamaged;
   present = present;
   changes = any_change Same v v (stays v);
-  files_stay = same_stays old.manifest.listing v v (stays v);
+  files_stay = same_used old.used.«data» v v (stays v);
   listed_stay = tt;
+  numbers_stay = tt;
   reads = refl;
   causes = none_made v (Err e) (λ f is same. (let one : e ≡ f = cc in other (one_then one same)));
 }

@@ -1,5 +1,5 @@
 -- A mutation that a store logs and merges into its memtable.
-use Rattle.std.proofs.Common.{◌≡◌, ◌≢◌, ℕ, zero, suc, ◌+◌, ◌-◌, ◌<◌, List, [], ◌∷◌, ◌++◌, length, map, set, slice_get, Option, None, Some, refl, sym, ap, subst, ◌∙◌, true, arith}
+use Rattle.std.proofs.Common.{◌≡◌, ◌≢◌, Bool, ℕ, zero, suc, ◌+◌, ◌-◌, ◌<◌, List, [], ◌∷◌, ◌++◌, length, map, set, slice_get, Option, None, Some, refl, sym, ap, subst, ◌∙◌, true, arith}
 use Rattle.std.specs.Prelude.{IsTrue, max, Ok, Err}
 use Rattle.std.specs.FinMap.{get}
 use Rattle.std.proofs.lemmas.List.{length-map}
@@ -8,6 +8,7 @@ use Rattle.sasi_types.specs.declared.class.Class.{Class}
 use Rattle.sasi_memindex.specs.Book.{Book, CanChange as Changeable}
 use Rattle.sasi_host.proofs.ContentLaws.{contents_other, reaches_where, told_after, told_before}
 use Rattle.sasi_host.specs.Disk.{AnyChange, Changes, FileChange, LeftWith}
+use Rattle.sasi_host.specs.declared.name.FileName.{FileName}
 use Rattle.sasi_host.specs.Names.{log_name, manifest_name, rank}
 use Rattle.sasi_host.specs.View.{IsSound, Reaches, View}
 use Rattle.sasi_gated.specs.Handles.{Handle}
@@ -29,7 +30,7 @@ use Rattle.sasi_layout.specs.Classes.{KnowsClasses, KnowsIndexes}
 use Rattle.sasi_layout.specs.Layout.{Layout, TableParts, listing_of, state_of, table_of}
 use Rattle.sasi_layout.specs.Moves.{Put, after_put, or_else, put_table}
 use Rattle.sasi_layout.specs.Kept.{is_kept}
-use Rattle.sasi_layout.specs.Serving.{AreTablesReady, CanChange, IsLive, IsTableReady, Serves, StoreInMemory, TableInMemory, kept_by, table_in_memory}
+use Rattle.sasi_layout.specs.Serving.{AreTablesReady, CanChange, HasExactlyBeside, IsLive, IsTableReady, Serves, StoreInMemory, TableInMemory, kept_by, table_in_memory}
 use Rattle.sasi_manifest.specs.declared.listing.Listing.{Listing}
 use Rattle.sasi_manifest.specs.ListedDefinition.{ListedDefinition}
 use Rattle.sasi_manifest.specs.Listings.{at_number}
@@ -61,7 +62,7 @@ use Rattle.sasi_tables.specs.declared.fault.StepFault.{StepFault}
 use Rattle.sasi_tables.specs.declared.parts.Parts.{Parts}
 use Rattle.sasi_tables.specs.Puts.{HasTableFor, IsPutAt, memory_after_put, put_in_memory, put_map}
 use Rattle.sasi_tables.proofs.MoveCauses.{IsPlain, any_change, plain_present, plain_undamaged, plain_unspent}
-use Rattle.sasi_tables.proofs.ListedFrames.{other_stays}
+use Rattle.sasi_tables.proofs.ListedFrames.{keeps_same, other_stays}
 use Rattle.sasi_tables.specs.Writable.{IsWritableMutation}
 use Rattle.sasi_layout.proofs.KeptLaws.{keeps_segment}
 use Rattle.sasi_tables.proofs.Frames.{changed_kept, manifest_other, reached_there}
@@ -143,6 +144,13 @@ module _ (a b : View) (sound : IsSound a) (store : StoreInMemory) (m : Mutation)
         shape = put_each l m log.at a b serves.older serves.current serves.shape serves.in_order (fits_layout l serves) change_log end;
       }
 
+  kept_log : is_kept (kept_by store) store.log.file ≡ true
+  kept_log = ap (is_kept (kept_by store)) ready.log_file ∙ keeps_segment (kept_by store) listing.last ready.consistent.start.ordered (omega arith)
+
+  -- no other file comes
+  pub put_exactly : (log : Handle) → Changes (FileChange store.log.file AnyChange) a b → log.file ≡ store.log.file → Reaches b log.file (log.at + 1) → (aside : FileName → Bool) → HasExactlyBeside a aside store → HasExactlyBeside b aside (record (memory_after_put m store) { log = log })
+  put_exactly log change file room aside has = changed_kept a b aside (kept_by store) store.log.file kept_log change (reached_there b store.log.file (log.at + 1) (subst (λ f. Reaches b f (log.at + 1)) file room)) has
+
   -- **It is ready after it.**
   pub put_ready : (log : Handle) → Changes (FileChange store.log.file AnyChange) a b → log.file ≡ store.log.file → Reaches b log.file (log.at + 1) → IsTrue log.usable → CanChange b (record (memory_after_put m store) { log = log })
   put_ready log change file room usable =
@@ -168,7 +176,9 @@ module _ (a b : View) (sound : IsSound a) (store : StoreInMemory) (m : Mutation)
         manifest_usable = ready.manifest_usable;
         log_usable = usable;
         stands = λ told. manifest_other a b store.log.file store.manifest.number store.manifest.at listing apart change (ready.stands (told_before (FileChange store.log.file AnyChange) a b change told));
-        kept = changed_kept a b (kept_by store) store.log.file kept_log change (reached_there b store.log.file (log.at + 1) (subst (λ f. Reaches b f (log.at + 1)) file room)) ready.kept;
+        aside = ready.aside;
+        aside_are = ready.aside_are;
+        exactly = put_exactly log change file room ready.aside ready.exactly;
       }
     where
       live_put : (first : Option ℕ) → IsLive listing.floor listing.last first → IsLive listing.floor listing.last (or_else first (Some listing.last))
@@ -178,14 +188,12 @@ module _ (a b : View) (sound : IsSound a) (store : StoreInMemory) (m : Mutation)
       apart : manifest_name store.manifest.number ≢ store.log.file
       apart = subst (λ f. manifest_name store.manifest.number ≢ f) (sym ready.log_file) (kinds_apart _ _ (omega arith))
 
-      kept_log : is_kept (kept_by store) store.log.file ≡ true
-      kept_log = ap (is_kept (kept_by store)) ready.log_file ∙ keeps_segment (kept_by store) listing.last ready.consistent.start.ordered (omega arith)
-
   -- ---- what the store promises of it
 
   pub put_stopped : {T : Type 0} (new : StoreInMemory) (e : StepFault) → ((mutations : List Mutation) → IsAtLogEnd a store.log.file store.log.at mutations → Changes (FileChange store.log.file (LeftWith (IsLogBeforeOrAfter store.log.file mutations m))) a b)
       → Changes (FileChange store.log.file AnyChange) a b → b.reads ≡ a.reads → IsPlain e → StepCauses {T = T} a b (Err e) → MakesMoves {T = T} (λ l. Put m ∷ []) a b store new (Err e)
   put_stopped new e moments change reads plain causes = record {
+    exactly = tt;
     any_moment = put_moment moments;
     serves = tt;
     ready = tt;
@@ -194,8 +202,9 @@ module _ (a b : View) (sound : IsSound a) (store : StoreInMemory) (m : Mutation)
     undamaged = plain_undamaged e plain;
     present = plain_present _ e plain;
     changes = any_change (FileChange store.log.file AnyChange) a b change;
-    files_stay = other_stays listing store.log.file (subst (λ f. rank f.kind < 3) (sym ready.log_file) (omega arith)) a b change;
+    files_stay = other_stays store.used.«data» store.log.file (subst (λ f. rank f.kind < 3) (sym ready.log_file) (omega arith)) a b change;
     listed_stay = tt;
+    numbers_stay = tt;
     reads = reads;
     causes = causes;
   }
@@ -204,6 +213,7 @@ module _ (a b : View) (sound : IsSound a) (store : StoreInMemory) (m : Mutation)
       → Changes (FileChange store.log.file AnyChange) a b → GainsMutation a b store.log.file store.log.at log.at m → log.file ≡ store.log.file → Reaches b log.file (log.at + 1) → IsTrue log.usable → b.reads ≡ a.reads → StepCauses {T = T} a b (Ok x)
       → MakesMoves {T = T} (λ l. Put m ∷ []) a b store (record (memory_after_put m store) { log = log }) (Ok x)
   put_made x log moments change gains file room usable reads causes = record {
+    exactly = λ aside are has. (are, put_exactly log change file room aside has);
     any_moment = put_moment moments;
     serves = put_serves log change gains file;
     ready = put_ready log change file room usable;
@@ -212,8 +222,9 @@ module _ (a b : View) (sound : IsSound a) (store : StoreInMemory) (m : Mutation)
     undamaged = tt;
     present = tt;
     changes = any_change (FileChange store.log.file AnyChange) a b change;
-    files_stay = other_stays listing store.log.file (subst (λ f. rank f.kind < 3) (sym ready.log_file) (omega arith)) a b change;
-    listed_stay = λ table f has. has;
+    files_stay = other_stays store.used.«data» store.log.file (subst (λ f. rank f.kind < 3) (sym ready.log_file) (omega arith)) a b change;
+    listed_stay = keeps_same store.used.«data» store.used.«data» store.manifest.listing (omega arith);
+    numbers_stay = omega arith;
     reads = reads;
     causes = causes;
   }

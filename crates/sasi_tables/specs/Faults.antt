@@ -9,6 +9,8 @@ use Rattle.sasi_host.specs.declared.fault.HostFault.TheVariants as host_fault
 use Rattle.sasi_host.specs.declared.fault.ReadFault.{ReadFault}
 use Rattle.sasi_host.specs.declared.fault.ReadFault.TheVariants as read_fault
 use Rattle.sasi_host.specs.View.{FailedAtLast, View}
+use Rattle.sasi_datawrite.specs.declared.fault.PairFault.{PairFault}
+use Rattle.sasi_datawrite.specs.declared.fault.PairFault.TheVariants as pair
 use Rattle.sasi_layout.specs.declared.number_kind.NumberKind.{NumberKind}
 use Rattle.sasi_tables.specs.declared.fault.StepFault.{StepFault}
 use Rattle.sasi_tables.specs.declared.fault.StepFault.TheVariants as fault
@@ -23,6 +25,13 @@ abbrev pub fault_of_read : ReadFault → StepFault
 fault_of_read read_fault.Failed = fault.Failed
 fault_of_read read_fault.OutOfMemory = fault.OutOfMemory
 fault_of_read (read_fault.Damaged damage) = fault.Damaged damage
+
+-- the fault of a step in which a data file with its index files couldn't be written on
+abbrev pub fault_of_pair : PairFault → StepFault
+fault_of_pair pair.Failed = fault.Failed
+fault_of_pair pair.OutOfMemory = fault.OutOfMemory
+fault_of_pair (pair.Damaged damage) = fault.Damaged damage
+fault_of_pair (pair.Missing class) = fault.AnalyzerMissing class
 
 -- the fault of a step in which an analyzer failed
 abbrev pub fault_of_kit : KitFault → StepFault

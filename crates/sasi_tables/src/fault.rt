@@ -1,9 +1,10 @@
 // Why a store makes no step.
 ghost use Rattle.std.specs.Prelude.{◌≡◌};
-ghost use Rattle.sasi_tables.specs.declared.fault.StepFault.TheVariants.{AnalyzerMissing, NumbersSpent, OutOfMemory};
+ghost use Rattle.sasi_tables.specs.declared.fault.StepFault.TheVariants.{AnalyzerMissing, Failed as StepFailed, NumbersSpent, OutOfMemory};
 
-use sasi_host::{Damage, HostFault, ReadFault};
+use sasi_host::{Damage, Failed, HostFault, ReadFault};
 use sasi_layout::NumberKind;
+use sasi_pairs::PairFault;
 use sasi_types::{Class, KitFault};
 use std::alloc::AllocError;
 
@@ -79,6 +80,29 @@ impl From<ReadFault> for StepFault {
             ReadFault::Failed => StepFault::Failed,
             ReadFault::OutOfMemory => StepFault::OutOfMemory,
             ReadFault::Damaged(damage) => StepFault::Damaged(damage),
+        }
+    }
+}
+
+impl From<Failed> for StepFault {
+    ghost from_gives = { λ _ f. f ≡ StepFailed };
+
+    fn from(_: Failed) -> StepFault {
+        StepFault::Failed
+    }
+}
+
+impl From<PairFault> for StepFault {
+    ghost use Rattle.sasi_tables.specs.Faults.{fault_of_pair};
+
+    ghost from_gives = { λ fault f. f ≡ fault_of_pair fault };
+
+    fn from(fault: PairFault) -> StepFault {
+        match fault {
+            PairFault::Failed => StepFault::Failed,
+            PairFault::OutOfMemory => StepFault::OutOfMemory,
+            PairFault::Damaged(damage) => StepFault::Damaged(damage),
+            PairFault::Missing(class) => StepFault::AnalyzerMissing(class),
         }
     }
 }

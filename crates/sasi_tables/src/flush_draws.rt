@@ -98,8 +98,8 @@ fn part_after(used: u32, count: usize) -> Option<u32>
     used.checked_add(count as u32)
 }
 
-// The definitions rising by number.
-fn rising_indexes(alloc: Global, defs: &[IndexDef]) -> Result<IndexList, AllocError>
+/// The definitions, rising by number.
+pub fn rising_indexes(alloc: Global, defs: &[IndexDef]) -> Result<IndexList, AllocError>
     ensures { IfOk result (λ rising. rising ≡ by_number defs.now) }
 {
     let mut rising = copies_of(alloc, defs)?;

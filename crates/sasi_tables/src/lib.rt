@@ -21,6 +21,7 @@ mod writes;
 pub use creation::create;
 pub use definition::{check_class, define};
 pub use fault::StepFault;
+pub use flush_draws::rising_indexes;
 pub use flush_table::flush_unless_empty;
 pub use frozen::freeze;
 pub use parts::{Parts, parts_of};

@@ -14,3 +14,4 @@ pub mod Seeks
 pub mod LeafPairs
 pub mod Fitting
 pub mod TreeSizes
+pub mod Rising

@@ -90,7 +90,7 @@ counts_there bytes at window level count token below has counts =
 
 pub steps_behind : (v : View) (file : FileName) (tree : TreeRef) (token begin : ℕ) (before after : Buffered) (count passed : ℕ) (found : Option Pair) → begin ≡ start tree
     → ((bytes : Bytes) → contents v file ≡ Some bytes → CountsDown bytes token 0 begin tree.pairs count)
-    → PassesOne (record { buffered = before; tree = tree; passed = count }) (record { buffered = after; tree = tree; passed = passed }) found → StepsBehindCounted v file tree token passed found
+    → PassesOne (record { buffered = before; tree = tree; passed = count; last = None }) (record { buffered = after; tree = tree; passed = passed; last = None }) found → StepsBehindCounted v file tree token passed found
 steps_behind v file tree token begin before after count passed None is counts ends =
     let same : passed ≡ count = ap (λ (s : PairScan). s.passed) ends.1 in
     (omega (arith, ends.0, same), λ bytes reads. inr (subst (λ (n : ℕ). CountsDown bytes token 0 (start tree) tree.pairs n) (sym same) (subst (λ (n : ℕ). CountsDown bytes token 0 n tree.pairs count) is (counts bytes reads))))

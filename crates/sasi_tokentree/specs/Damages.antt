@@ -1,5 +1,5 @@
 -- Where a file breaks the format of a tree, and what is there.
-use Rattle.std.specs.Prelude.{◌≡◌, ◌⊎◌, ℕ, ◌+◌, ◌-◌, ◌*◌, ◌/◌, ◌%◌, ◌^◌, ◌<◌, nat_le, Bool, ◌&&◌, [], ◌∷◌, ◌++◌, length, min}
+use Rattle.std.specs.Prelude.{◌≡◌, ◌⊎◌, ℕ, ◌+◌, ◌-◌, ◌*◌, ◌/◌, ◌%◌, ◌^◌, ◌<◌, nat_le, Bool, ◌&&◌, [], ◌∷◌, ◌++◌, length, min, Option, Some}
 use Rattle.std.specs.Int.{to_be_bytes, w16, w32, w64}
 use Rattle.sasi_types.specs.declared.tree.Pair.{Pair}
 use Rattle.sasi_types.specs.declared.tree.TreeRef.{TreeRef}
@@ -38,6 +38,12 @@ start tree = tree.root - bytes_below_root tree.pairs tree.pairs
 -- the offset of the pair with this index: that of its leaf, and its offset there
 abbrev pub pair_offset : TreeRef → ℕ → ℕ
 pair_offset tree index = start tree + 4088 * (index / 255) + (8 + 16 * (index % 255))
+
+-- the file has this pair as the entry with this index, even where the tree is damaged
+pub record HasEntry (bytes : Bytes) (tree : TreeRef) (index : ℕ) (pair : Pair) : Type 0 where
+  pub within : index < tree.pairs
+  pub stands : HasAt bytes (pair_offset tree index) (entry pair)
+  pub fit : AreFit (pair ∷ [])
 
 -- it is a node of the tree with this reference
 abbrev pub IsNodeOf : TreeRef → Node → Type 0
@@ -108,6 +114,41 @@ BeginsLeaf tree index = (255 < tree.pairs) × (index % 255 ≡ 0)
 -- a scan may read each pair alone
 abbrev pub ShowsTree : FileName → TreeRef → Bytes → Damage → Type 0
 ShowsTree = ShowsTreeBy (λ index. Unit {0})
+
+-- the damage is that of this file, in which the entry with this index isn't above the entry before it
+pub record ShowsDisorder (file : FileName) (tree : TreeRef) (index : ℕ) (bytes : Bytes) (damage : Damage) : Type 0 where
+  pub named : damage.file ≡ file
+  pub rule_is : damage.rule ≡ Order
+  pub before : ℕ
+  pub follows : index ≡ before + 1
+  pub last : Pair
+  pub pair : Pair
+  pub has_last : HasEntry bytes tree before last
+  pub has_pair : HasEntry bytes tree index pair
+  pub disorder : ¬ IsBefore last pair
+  pub at_is : damage.at ≡ pair_offset tree index
+  pub seen_is : seen_bytes damage.seen ≡ to_be_bytes w64 pair.token
+
+-- the damage is that of this file, which breaks the format of the tree at one of these pairs, or in a node
+pub data ShowsPairsBy (These : ℕ → Type 0) (file : FileName) (tree : TreeRef) (bytes : Bytes) (damage : Damage) : Type 0 where
+  of_tree : ShowsTreeBy These file tree bytes damage → ShowsPairsBy These file tree bytes damage
+  of_order : (index : ℕ) → These index → ShowsDisorder file tree index bytes damage → ShowsPairsBy These file tree bytes damage
+
+-- the damage is that of this file, and a scan of all pairs of the tree with this reference meets it at one of them, or in a node
+abbrev pub ShowsPairs : FileName → TreeRef → Bytes → Damage → Type 0
+ShowsPairs = ShowsPairsBy (λ index. Unit {0})
+
+-- the pair that was read isn't above the last one, and the damage is that of it, as the last of the passed pairs
+pub record TellsDisorder (file : FileName) (tree : TreeRef) (passed : ℕ) (before after : Option Pair) (damage : Damage) : Type 0 where
+  pub last : Pair
+  pub pair : Pair
+  pub was : before ≡ Some last
+  pub is : after ≡ Some pair
+  pub named : damage.file ≡ file
+  pub rule_is : damage.rule ≡ Order
+  pub disorder : ¬ IsBefore last pair
+  pub at_is : damage.at ≡ pair_offset tree (passed - 1)
+  pub seen_is : seen_bytes damage.seen ≡ to_be_bytes w64 pair.token
 
 -- damage is that one of these nodes breaks a rule
 abbrev pub ShownOf : (Node → Type 0) → View → FileName → ReadFault → Type 0

@@ -1,21 +1,23 @@
 -- Scans of the pairs of a tree.
-use Rattle.std.specs.Prelude.{◌≡◌, ◌⊎◌, ℕ, ◌+◌, ◌-◌, ◌*◌, ◌/◌, ◌%◌, ◌^◌, ◌<◌, ◌≤◌, nat_eq, if◌then◌else◌, min, List, [], ◌∷◌, drop, Option, None, Some}
+use Rattle.std.specs.Prelude.{◌≡◌, ◌⊎◌, ℕ, ◌+◌, ◌-◌, ◌*◌, ◌/◌, ◌%◌, ◌^◌, ◌<◌, ◌≤◌, nat_eq, if◌then◌else◌, min, List, [], ◌∷◌, drop, Option, None, Some, IfSome}
 use Rattle.sasi_types.specs.declared.tree.Pair.{Pair}
 use Rattle.sasi_types.specs.declared.tree.TreeRef.{TreeRef}
 use Rattle.sasi_host.specs.declared.name.FileName.{FileName}
-use Rattle.sasi_host.specs.Names.{Bytes}
-use Rattle.sasi_host.specs.View.{View, contents}
+use Rattle.sasi_host.specs.Names.{Bytes, Folder}
+use Rattle.sasi_host.specs.View.{View, contents, contents_in}
 use Rattle.sasi_host.specs.Buffered.{Buffered, unbuffered_pages}
 use Rattle.sasi_host.specs.Damages.{HasAt}
-use Rattle.sasi_tokentree.specs.Format.{entry, node_header, AreFit, HasTree}
+use Rattle.sasi_tokentree.specs.Format.{node_header, HasTree, IsBefore}
 use Rattle.sasi_tokentree.specs.Damages.{pair_offset, start}
+pub use Rattle.sasi_tokentree.specs.Damages.{HasEntry}
 use Rattle.sasi_tokentree.specs.Reads.{CountsBelow, CountsDown}
 
--- the view of a scan: the buffered file, where the tree is, and how many of its pairs the scan has passed
+-- the view of a scan: the buffered file, where the tree is, how many of its pairs the scan has passed, and the pair that it gave last
 pub record PairScan : Type 0 where
   pub buffered : Buffered
   pub tree : TreeRef
   pub passed : ℕ
+  pub last : Option Pair
 
 -- the scan steps to the first of the pairs from an index on, and those behind it are left; to none where none is left
 abbrev pub StepsToPair : List Pair → ℕ → ℕ → Option Pair → Type 0
@@ -39,16 +41,27 @@ abbrev pub PassesOne : PairScan → PairScan → Option Pair → Type 0
 PassesOne old new None = (old.tree.pairs ≤ old.passed) × (new ≡ old)
 PassesOne old new (Some pair) = (old.passed < old.tree.pairs) × (new.passed ≡ old.passed + 1)
 
--- the file has this pair as the entry with this index, even where the tree is damaged
-pub record HasEntry (bytes : Bytes) (tree : TreeRef) (index : ℕ) (pair : Pair) : Type 0 where
-  pub within : index < tree.pairs
-  pub stands : HasAt bytes (pair_offset tree index) (entry pair)
-  pub fit : AreFit (pair ∷ [])
-
 -- the pair read, if any, is the last of the passed entries
 abbrev pub ReadsEntry : View → FileName → TreeRef → ℕ → Option Pair → Type 0
 ReadsEntry v file tree passed None = Unit {0}
 ReadsEntry v file tree passed (Some pair) = (index : ℕ) × (passed ≡ index + 1) × ((bytes : Bytes) → contents v file ≡ Some bytes → HasEntry bytes tree index pair)
+
+-- the file has this pair, if it is one, as the last of the passed entries, even where the tree is damaged
+abbrev pub HasLast : Bytes → TreeRef → ℕ → Option Pair → Type 0
+HasLast bytes tree passed None = Unit {0}
+HasLast bytes tree passed (Some pair) = (index : ℕ) × (passed ≡ index + 1) × HasEntry bytes tree index pair
+
+-- in a folder whose files are told, this pair, if it is one, is the last of the passed entries of a tree in the file
+abbrev pub IsLastEntry : Option Folder → FileName → TreeRef → ℕ → Option Pair → Type 0
+IsLastEntry files file tree passed last = (bytes : Bytes) → contents_in files file ≡ Some bytes → HasLast bytes tree passed last
+
+-- the pair that a scan gave last, if it gave one, is the last of the entries that it has passed
+abbrev pub IsAtLast : PairScan → Option Folder → Type 0
+IsAtLast scan files = IsLastEntry files scan.buffered.file scan.tree scan.passed scan.last
+
+-- the pair, if any, comes behind the last one, if there is one
+abbrev pub RisesFrom : Option Pair → Option Pair → Type 0
+RisesFrom last found = IfSome found (λ pair. IfSome last (λ before. IsBefore before pair))
 
 -- the file has the header of this leaf, even where the tree is damaged: with 255 entries, or what is left for the last one
 abbrev pub HasLeafHeader : Bytes → TreeRef → ℕ → Type 0

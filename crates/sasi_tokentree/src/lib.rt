@@ -2,6 +2,7 @@
 //! written from left to right, and scanned from any token on. A scan reads each page once.
 #![tactic(auto)]
 
+mod next_pair;
 mod node_decode;
 mod node_encode;
 mod node_layout;

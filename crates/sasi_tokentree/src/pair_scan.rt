@@ -1,5 +1,5 @@
 // Reads the pairs of a tree, one after another.
-ghost use Rattle.std.specs.Prelude.{◌≡◌, ◌⊎◌, ◌+◌, ◌-◌, ◌*◌, ◌/◌, ◌%◌, ◌^◌, ◌<◌, ◌≤◌, List, ℕ, min, IfErr, IfOk, OnOk, IsSome, IsTrue, Some, false};
+ghost use Rattle.std.specs.Prelude.{◌≡◌, ◌⊎◌, ◌+◌, ◌-◌, ◌*◌, ◌/◌, ◌%◌, ◌^◌, ◌<◌, ◌≤◌, List, ℕ, min, IfErr, IfOk, OnOk, IsSome, IsTrue, None, Some, false};
 ghost use Rattle.sasi_host.specs.View.{contents, ReadCost};
 ghost use Rattle.sasi_host.specs.Buffered.{unbuffered_pages};
 ghost use Rattle.sasi_host.specs.Damages.{HasAt, DamageShown, ShowsEnd};
@@ -162,10 +162,10 @@ pub fn pair_from<H: Host, P: PageReader>(
     ensures damaged { IfErr result (DamageShown (H.view host.old) buffered.old.file (ShowsTreeBy (λ index. index ≡ passed) buffered.old.file tree)) }
     ensures undamaged { IfErr result (NoFalseTreeDamage (H.view host.old) buffered.old.file tree) }
     ensures read { HasReadOn (P.agrees pages.new) (P.covers pages.old) (P.covers pages.new) (H.view host.old) (H.view host.new) buffered.old buffered.new }
-    ensures entry_buffered { IfOk result (λ found. IsEntryBuffered (record { buffered = buffered.new; tree = tree; passed = found.passed }) found.pair) }
+    ensures entry_buffered { IfOk result (λ found. IsEntryBuffered (record { buffered = buffered.new; tree = tree; passed = found.passed; last = None }) found.pair) }
     ensures passed { IfOk result (λ found. IsSome found.pair → HasPassed tree found.passed) }
     ensures causes { ReadCost (entry_cost buffered.old.page tree passed) (H.view host.old) (H.view host.new) result }
-    ensures ends { IfOk result (λ found. PassesOne (record { buffered = buffered.old; tree = tree; passed = passed }) (record { buffered = buffered.new; tree = tree; passed = found.passed }) found.pair) }
+    ensures ends { IfOk result (λ found. PassesOne (record { buffered = buffered.old; tree = tree; passed = passed; last = None }) (record { buffered = buffered.new; tree = tree; passed = found.passed; last = None }) found.pair) }
     ensures ended { tree.pairs ≤ passed → (H.view host.new).reads ≡ (H.view host.old).reads }
 {
     if passed >= tree.pairs {
@@ -197,7 +197,7 @@ pub fn first_from<H: Host, P: PageReader>(
     ensures damaged { IfErr result (DamageShown (H.view host.old) buffered.old.file (ShowsTreeBy (BeginsLeaf tree) buffered.old.file tree)) }
     ensures undamaged { IfErr result (NoFalseTreeDamage (H.view host.old) buffered.old.file tree) }
     ensures read { HasReadOn (P.agrees pages.new) (P.covers pages.old) (P.covers pages.new) (H.view host.old) (H.view host.new) buffered.old buffered.new }
-    ensures entry_buffered { IfOk result (λ found. IsEntryBuffered (record { buffered = buffered.new; tree = tree; passed = found.passed }) found.pair) }
+    ensures entry_buffered { IfOk result (λ found. IsEntryBuffered (record { buffered = buffered.new; tree = tree; passed = found.passed; last = None }) found.pair) }
     ensures passed { IfOk result (λ found. IsSome found.pair → HasPassed tree found.passed) }
     ensures ends { IfOk result (λ found. StepsBehindCounted (H.view host.old) buffered.old.file tree token found.passed found.pair) }
     ensures causes { (most : ℕ) → tree.pairs ≤ most → ReadCost (2 * height most tree.pairs + 2) (H.view host.old) (H.view host.new) result }

@@ -1,7 +1,6 @@
 -- Pairs in memory, and trees that are read whole into memory.
 use Rattle.std.specs.Prelude.{◌≡◌, ℕ, ◌+◌, ◌<◌, ◌≤◌, ◌⊎◌, List, [], ◌∷◌, ◌++◌, length, drop, Contains, Option, None, Some, Ok, refl}
 use Rattle.std.proofs.Common.{◌∙◌, sym, ap, subst, arith, inl, inr, ⊎_elim}
-use Rattle.std.specs.List.Sorted.{IsPermutation}
 use Rattle.std.proofs.lemmas.Bool.Decides.{leb_tells}
 use Rattle.std.proofs.lemmas.List.{append-nil, append_assoc, get_or_append_left, get_or_push, length_push}
 use Rattle.std.proofs.lemmas.List.Elements.{Contains-append_left, Contains-push, Contains-push_cases}
@@ -23,7 +22,8 @@ use Rattle.sasi_tokentree.specs.Scans.{HasEntry, PairScan}
 use Rattle.sasi_treemerge.specs.declared.held_pair.HeldPair.{HeldPair}
 use Rattle.sasi_treemerge.specs.declared.tree_source.TreeSource.{TreeSource}
 use Rattle.sasi_treemerge.specs.Held.{IsHeld}
-use Rattle.sasi_treemerge.specs.MergeDamages.{NoFalseSourceDamage, ShowsPairs}
+use Rattle.sasi_treemerge.specs.MergeDamages.{NoFalseSourceDamage}
+use Rattle.sasi_tokentree.specs.Damages.{ShowsPairs}
 use Rattle.sasi_treemerge.proofs.Stepping.{Pays, pays_on}
 use Rattle.sasi_treemerge.specs.Merges.{AdvancesTo, HoldsMore, HoldsOne, HoldsTree, IsAtHead, IsSourceOf, unread_in}
 use Rattle.sasi_treemerge.proofs.Merging.{contains_cases, contains_first, contains_later}
@@ -87,7 +87,7 @@ head_entry v file list source index at tree passed bytes told =
     subst (λ (t : TreeRef). HasEntry bytes t index source.head) tree (subst (λ (n : ℕ). HasEntry bytes source.tree.value.tree n source.head) (omega (arith, at.stands.1, passed)) (at.stands.2 bytes told))
 
 -- before the first pair
-pub begins : (v : View) (file : FileName) (list : TreeRef) (scan : PairScan) (source : TreeSource) (held : List HeldPair) → scan ≡ record { buffered = record { file = file; page = None; bytes = [] }; tree = list; passed = 0 }
+pub begins : (v : View) (file : FileName) (list : TreeRef) (scan : PairScan) (source : TreeSource) (held : List HeldPair) → scan ≡ record { buffered = record { file = file; page = None; bytes = [] }; tree = list; passed = 0; last = None }
     → AdvancesTo v scan (Some source) → IsAtHead v file source → IsReading v file list source held held
 begins v file list scan source held is advances at =
     let start = subst (λ (s : PairScan). AdvancesTo v s (Some source)) is advances in
@@ -138,7 +138,7 @@ module _ (v : View) (file : FileName) (list : TreeRef) (source : TreeSource) (ol
       }
 
 -- a tree without pairs
-pub reads_none : (v : View) (file : FileName) (list : TreeRef) (scan : PairScan) (held : List HeldPair) → scan ≡ record { buffered = record { file = file; page = None; bytes = [] }; tree = list; passed = 0 } → AdvancesTo v scan None → HoldsTree v file list held held
+pub reads_none : (v : View) (file : FileName) (list : TreeRef) (scan : PairScan) (held : List HeldPair) → scan ≡ record { buffered = record { file = file; page = None; bytes = [] }; tree = list; passed = 0; last = None } → AdvancesTo v scan None → HoldsTree v file list held held
 reads_none v file list scan held is advances =
     let start = subst (λ (s : PairScan). AdvancesTo v s None) is advances in
     record {
@@ -170,12 +170,12 @@ advances_before a b scan None same advances = (advances.0, λ bytes pairs told t
 advances_before a b scan (Some source) same advances = (advances.0, advances.1, advances.2, λ bytes pairs told tree. advances.3 bytes pairs (contents_same a b scan.buffered.file same ∙ told) tree)
 
 pub at_head_before : (a b : View) (file : FileName) (source : TreeSource) → Changes Same a b → IsAtHead b file source → IsAtHead a file source
-at_head_before a b file source same is = record { passed = is.passed; stands = (is.stands.0, is.stands.1, λ bytes told. is.stands.2 bytes (contents_same a b file same ∙ told)) }
+at_head_before a b file source same is = record { passed = is.passed; stands = (is.stands.0, is.stands.1, λ bytes told. is.stands.2 bytes (contents_same a b file same ∙ told)); last_is = is.last_is }
 
 -- ---- reads
 
 -- the first read of a tree
-pub first_pays : {S : Type 0} (a b : View) (scan : PairScan) (list : TreeRef) {file : FileName} (source : TreeSource) (x : S) → scan ≡ record { buffered = record { file = file; page = None; bytes = [] }; tree = list; passed = 0 }
+pub first_pays : {S : Type 0} (a b : View) (scan : PairScan) (list : TreeRef) {file : FileName} (source : TreeSource) (x : S) → scan ≡ record { buffered = record { file = file; page = None; bytes = [] }; tree = list; passed = 0; last = None }
     → AdvancesTo a scan (Some source) → ReadCost 2 a b (Ok x) → Pays a b list.pairs (unread_in source)
 first_pays a b scan list source x is advances cost =
     let start = subst (λ (s : PairScan). AdvancesTo a s (Some source)) is advances in

@@ -21,7 +21,8 @@ use Rattle.sasi_host.specs.declared.fault.ReadFault.TheVariants as fault
 use Rattle.sasi_host.specs.Damages.{DamageShown}
 use Rattle.sasi_host.proofs.DamageLaws.{shown_as, shown_before}
 use Rattle.sasi_tokentree.proofs.AfterRead.{reads_still}
-use Rattle.sasi_treemerge.specs.MergeDamages.{NoFalseDamageOf, NoFalseSourceDamage, ShowsPairs, ShowsSources}
+use Rattle.sasi_treemerge.specs.MergeDamages.{NoFalseDamageOf, NoFalseSourceDamage, ShowsSources}
+use Rattle.sasi_tokentree.specs.Damages.{ShowsPairs}
 use Rattle.std.proofs.lemmas.Bool.Decides.{leb_tells}
 use Rattle.sasi_tokentree.specs.Format.{HasTree}
 use Rattle.sasi_tokentree.specs.Scans.{HasEntry, HasPassed, PairScan, PassesOne, ReadsNextPair, StepsToPair}
@@ -154,6 +155,7 @@ at_head_still : (a b : View) (file : FileName) (source : TreeSource) → Changes
 at_head_still a b file source same is = record {
   passed = is.passed;
   stands = (is.stands.0, is.stands.1, λ bytes told. is.stands.2 bytes (sym (contents_same a b file same) ∙ told));
+  last_is = is.last_is;
 }
 
 pub merge_still : (a b : View) (merge : TreeMerge) → Changes Same a b → CanMerge a merge → CanMerge b merge
@@ -232,7 +234,7 @@ pub add_reads : (before after : ℕ) (v : View) (scan : PairScan) (source : Tree
 add_reads before after v scan source old new advances first put cost =
     omega (arith, sum_by_pushed unread_in source old new put, ap (λ (t : TreeRef). t.pairs) advances.0, advances.1, advances.2, first, cost)
 
-pub tree_pairs : (before after : ℕ) (v : View) (scan : PairScan) (list : TreeRef) (source : TreeSource) (old new : List TreeSource) {file : FileName} → scan ≡ record { buffered = record { file = file; page = None; bytes = [] }; tree = list; passed = 0 }
+pub tree_pairs : (before after : ℕ) (v : View) (scan : PairScan) (list : TreeRef) (source : TreeSource) (old new : List TreeSource) {file : FileName} → scan ≡ record { buffered = record { file = file; page = None; bytes = [] }; tree = list; passed = 0; last = None }
     → AdvancesTo v scan (Some source) → IsPermutation (source ∷ old) new → after ≤ before + 2 → after + 2 * unread_of new ≤ before + 2 * unread_of old + 2 * list.pairs
 tree_pairs before after v scan list source old new is advances put cost =
     omega (arith, add_reads before after v scan source old new advances (ap (λ (s : PairScan). s.passed) is) put cost, ap (λ (s : PairScan). s.tree.pairs) is)

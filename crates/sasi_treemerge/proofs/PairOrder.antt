@@ -1,6 +1,6 @@
 -- The order of pairs, and what rising pairs behind one are.
 use Rattle.std.specs.Prelude.{◌≡◌, ℕ, zero, suc, ◌+◌, ◌<◌, ◌≤◌, ◌==◌, nat_lt, nat_le, Bool, true, false, ◌&&◌, ◌||◌, ◌⊎◌, List, [], ◌∷◌, length, drop, get_or, Contains, Option, Some, None, refl}
-use Rattle.std.proofs.Common.{◌∙◌, sym, ap, subst, arith, rules, inl, inr, ⊎_elim, length-drop, cond}
+use Rattle.std.proofs.Common.{◌∙◌, sym, ap, arith, rules, inl, inr, ⊎_elim, length-drop, cond}
 use Rattle.std.proofs.lemmas.List.{get_or-drop}
 use Rattle.std.specs.Ordering.{is_lt, ordering_then}
 use Rattle.std.specs.declared.cmp.Ordering.TheVariants.{Less, Equal, Greater}
@@ -140,14 +140,3 @@ first_least pairs before passed head pair rising is has =
     any_default [] k d e lt = absurd (omega (arith, lt))
     any_default (x ∷ l) zero d e lt = refl
     any_default (x ∷ l) (suc k) d e lt = any_default l k d e (omega (arith, lt))
-
--- of rising pairs each is before the next one
-pub next_rises : (pairs : List Pair) (before : ℕ) (head next : Pair) (others : List Pair) → IsRising pairs → drop before pairs ≡ head ∷ next ∷ others → is_before head next ≡ true
-next_rises pairs before head next others rising is =
-    let long : length (drop before pairs) ≡ length (head ∷ next ∷ others) = ap (λ (l : List Pair). length l) is in
-    let within : before + 1 < length pairs = omega (arith, long, length-drop before pairs) in
-    let first : head ≡ pair_at pairs (before + 0) = ap (λ (l : List Pair). get_or l 0 (record { token = 0; place = 0 })) (sym is) ∙ get_or-drop before pairs 0 (record { token = 0; place = 0 }) in
-    let second : next ≡ pair_at pairs (before + 1) = ap (λ (l : List Pair). get_or l 1 (record { token = 0; place = 0 })) (sym is) ∙ get_or-drop before pairs 1 (record { token = 0; place = 0 }) in
-    let base : before + 0 ≡ before = omega arith in
-    let here : head ≡ pair_at pairs before = first ∙ ap (λ (n : ℕ). pair_at pairs n) base in
-    is_before_yes head next (subst (λ (p : Pair). IsBefore p next) (sym here) (subst (λ (p : Pair). IsBefore (pair_at pairs before) p) (sym second) (rising before within)))

@@ -190,7 +190,7 @@ module _ (bytes : Bytes) (lists : List (List Pair)) (last : Option Pair) (floor 
     held_now : (pair : Pair) → IsHeld new.pairs pair → IsPairOf (lists ++ pairs ∷ []) pair
     held_now pair is = held_before pair (subst (λ (l : List HeldPair). IsHeld l pair) stay is)
 
-    sources_list : (next : Option TreeSource) → AdvancesTo v (record { buffered = record { file = file; page = None; bytes = [] }; tree = list; passed = 0 }) next → IsPermutation (option_to_list next ++ old.sources) new.sources
+    sources_list : (next : Option TreeSource) → AdvancesTo v (record { buffered = record { file = file; page = None; bytes = [] }; tree = list; passed = 0; last = None }) next → IsPermutation (option_to_list next ++ old.sources) new.sources
         → Gives bytes (lists ++ pairs ∷ []) last floor new
     sources_list None advances put = record {
       each = All-permutation (IsSourceIn bytes (lists ++ pairs ∷ [])) old.sources new.sources put kept;

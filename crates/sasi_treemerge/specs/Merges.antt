@@ -79,10 +79,11 @@ pub record Gives (bytes : Bytes) (lists : List (List Pair)) (last : Option Pair)
   pub held : (pair : Pair) → IsHeld parts.pairs pair → IsPairOf lists pair
   pub all : (pairs : List Pair) (pair : Pair) → Contains lists pairs → Contains pairs pair → is_left last floor pair ≡ true → IsStillGiven bytes pairs parts.sources pair ⊎ IsHeld parts.pairs pair
 
--- the head is the last entry that the scan has passed, in any file
+-- the head is the pair that the scan gave last, and in any file the last entry that it has passed
 pub record IsAtHead (v : View) (file : FileName) (source : TreeSource) : Type 0 where
   pub passed : HasPassed source.tree.value.tree source.tree.value.passed
   pub stands : ReadsEntry v file source.tree.value.tree source.tree.value.passed (Some source.head)
+  pub last_is : source.tree.value.last ≡ Some source.head
 
 -- what is known of a source in any file
 pub record IsReadable (v : View) (file : FileName) (source : TreeSource) : Type 0 where
@@ -238,7 +239,7 @@ pub record HoldsTree (v : View) (file : FileName) (list : TreeRef) (old new : Li
 -- one source more, at the first pair of the tree with this reference, if it has one
 pub record AddsSource (v : View) (file : FileName) (list : TreeRef) (old new : List TreeSource) : Type 0 where
   pub next : Option TreeSource
-  pub advances : AdvancesTo v (record { buffered = record { file = file; page = None; bytes = [] }; tree = list; passed = 0 }) next
+  pub advances : AdvancesTo v (record { buffered = record { file = file; page = None; bytes = [] }; tree = list; passed = 0; last = None }) next
   pub put : IsPermutation (option_to_list next ++ old) new
 
 -- a tree of one node is in memory, and a larger one is a source

@@ -7,15 +7,15 @@ ghost use Rattle.sasi_host.specs.Names.{Bytes};
 ghost use Rattle.sasi_host.specs.View.{ReadCost, contents};
 ghost use Rattle.sasi_host.specs.Damages.{DamageShown};
 ghost use Rattle.sasi_host.specs.PageReading.{CanRead, HasRead};
-ghost use Rattle.sasi_tokentree.specs.Damages.{ShowsTree};
+ghost use Rattle.sasi_tokentree.specs.Damages.{ShowsPairs};
 ghost use Rattle.sasi_tokentree.specs.Reads.{NoFalseTreeDamage};
 ghost use Rattle.sasi_treemerge.specs.Held.{held_cmp};
 ghost use Rattle.sasi_treemerge.specs.Sources.{source_cmp};
 ghost use Rattle.sasi_treemerge.specs.Merges.{Adds, AddsPairs, AddsSource, CanMerge, Gives, HeadsFirst, IsLeast, KeepsHeld, ReadsEach, SpendsReads, Steps, Takes, TakesHeld, TreesStay, held_of, is_left, last_after, parts_of, sources_of, unread_of};
-ghost use Rattle.sasi_treemerge.specs.MergeDamages.{NoFalseDamageOf, ShowsPairs, ShowsSources};
+ghost use Rattle.sasi_treemerge.specs.MergeDamages.{NoFalseDamageOf, ShowsSources};
 
 use crate::held_pair::HeldPair;
-use crate::tree_source::{TreeSource, next_of, source_of};
+use crate::tree_source::{TreeSource, source_of};
 use crate::whole_tree::{hold_all, hold_tree, is_held_first, scan_of};
 use sasi_host::{FileName, Host, PageReader, ReadFault};
 use sasi_tokentree::MAX_ENTRIES;
@@ -127,7 +127,7 @@ impl TreeMerge {
         requires merge { CanMerge (H.view host.old) self.old }
         ensures ok { OnOk result (AddsSource (H.view host.old) self.old.file list (sources_of self.old) (sources_of self.new)) }
         ensures merge { OnOk result (CanMerge (H.view host.new) self.new) }
-        ensures damaged { IfErr result (DamageShown (H.view host.old) self.old.file (ShowsTree self.old.file list)) }
+        ensures damaged { IfErr result (DamageShown (H.view host.old) self.old.file (ShowsPairs self.old.file list)) }
         ensures undamaged { IfErr result (NoFalseTreeDamage (H.view host.old) self.old.file list) }
         ensures read { HasRead (P.agrees pages.new) (P.covers pages.old) (P.covers pages.new) (H.view host.old) (H.view host.new) self.old.file }
         ensures causes { ReadCost 2 (H.view host.old) (H.view host.new) result }
@@ -186,7 +186,7 @@ impl TreeMerge {
             return Ok(None);
         };
         let head = source.head;
-        match next_of(host, pages, self.file, source)? {
+        match source_of(host, pages, source.tree)? {
             None => Ok(Some(head)),
             Some(next) => {
                 put(&mut self.sources, next)?;

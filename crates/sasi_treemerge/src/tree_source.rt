@@ -1,5 +1,5 @@
 // The sources of a merge.
-ghost use Rattle.std.specs.Prelude.{◌≡◌, ◌≤◌, IfErr, IfOk, IfSome, OnOk, true};
+ghost use Rattle.std.specs.Prelude.{◌≡◌, ◌≤◌, IfErr, IfOk, IfSome};
 ghost use Rattle.std.proofs.Common.{rules};
 ghost use Rattle.std.specs.Cmp.{partial_order_from_own_ties, partial_order_from_total};
 ghost use Rattle.std.specs.Cmp.Rules.{comparing};
@@ -8,14 +8,13 @@ ghost use Rattle.sasi_host.specs.View.{ReadCost};
 ghost use Rattle.sasi_host.specs.Buffered.{IsBuffered};
 ghost use Rattle.sasi_host.specs.Damages.{DamageShown};
 ghost use Rattle.sasi_host.specs.PageReading.{CanReadOn, HasRead};
-ghost use Rattle.sasi_tokentree.specs.Damages.{ShowsTree};
+ghost use Rattle.sasi_tokentree.specs.Damages.{ShowsPairs};
 ghost use Rattle.sasi_tokentree.specs.Reads.{NoFalseTreeDamage};
-ghost use Rattle.sasi_tokentree.specs.Scans.{HasPassed};
-ghost use Rattle.sasi_treemerge.specs.Sources.{is_before, source_cmp, source_eq, source_total};
+ghost use Rattle.sasi_tokentree.specs.Scans.{IsAtLast};
+ghost use Rattle.sasi_treemerge.specs.Sources.{source_cmp, source_eq, source_total};
 ghost use Rattle.sasi_treemerge.specs.Merges.{AdvancesTo, IsAtHead};
-ghost use Rattle.sasi_treemerge.specs.MergeDamages.{NoFalseSourceDamage, ShowsPairs, TellsDisorder};
 
-use sasi_host::{Damage, FileName, FormatRule, Host, PageReader, ReadFault, found};
+use sasi_host::{Host, PageReader, ReadFault};
 use sasi_tokentree::Tree;
 use sasi_types::Pair;
 use std::cmp::Ordering;
@@ -75,11 +74,12 @@ pub fn source_of<H: Host, P: PageReader>(
     mut tree: Box<Tree>,
 ) -> Result<Option<TreeSource>, ReadFault>
     requires read { CanReadOn (P.agrees pages.old) (H.view host.old) tree.value.buffered }
+    requires last { IsAtLast tree.value (H.view host.old).files }
     ensures ok { IfOk result (AdvancesTo (H.view host.old) tree.value) }
     ensures named { IfOk result (λ found. IfSome found (λ source. source.tree.value.buffered.file ≡ tree.value.buffered.file)) }
     ensures buffered { IfOk result (λ found. IfSome found (λ source. IsBuffered source.tree.value.buffered (H.view host.new).files)) }
     ensures at_head { IfOk result (λ found. IfSome found (IsAtHead (H.view host.old) tree.value.buffered.file)) }
-    ensures damaged { IfErr result (DamageShown (H.view host.old) tree.value.buffered.file (ShowsTree tree.value.buffered.file tree.value.tree)) }
+    ensures damaged { IfErr result (DamageShown (H.view host.old) tree.value.buffered.file (ShowsPairs tree.value.buffered.file tree.value.tree)) }
     ensures undamaged { IfErr result (NoFalseTreeDamage (H.view host.old) tree.value.buffered.file tree.value.tree) }
     ensures read { HasRead (P.agrees pages.new) (P.covers pages.old) (P.covers pages.new) (H.view host.old) (H.view host.new) tree.value.buffered.file }
     ensures causes { ReadCost 2 (H.view host.old) (H.view host.new) result }
@@ -88,49 +88,5 @@ pub fn source_of<H: Host, P: PageReader>(
     match tree.next(host, pages)? {
         None => Ok(None),
         Some(head) => Ok(Some(TreeSource { head, tree })),
-    }
-}
-
-// Checks that the pair of a source is above the one before it.
-fn check_order(file: FileName, before: Pair, source: &TreeSource) -> Result<(), Damage>
-    requires { HasPassed source.now.tree.value.tree source.now.tree.value.passed }
-    ensures ok { OnOk result (is_before before source.now.head ≡ true) }
-    ensures damaged { IfErr result (TellsDisorder file before source.now) }
-{
-    if before < source.head {
-        return Ok(());
-    }
-    let token = source.head.token.to_be_bytes();
-    let at = source.tree.last_offset();
-    Err(found(file, at, FormatRule::Order, &token))
-}
-
-/// Moves a source on to its next pair, if it has one. That has to be above its head.
-pub fn next_of<H: Host, P: PageReader>(
-    host: &mut H,
-    pages: &mut P,
-    file: FileName,
-    source: TreeSource,
-) -> Result<Option<TreeSource>, ReadFault>
-    requires read { CanReadOn (P.agrees pages.old) (H.view host.old) source.tree.value.buffered }
-    requires named { source.tree.value.buffered.file ≡ file }
-    requires at_head { IsAtHead (H.view host.old) file source }
-    ensures ok { IfOk result (AdvancesTo (H.view host.old) source.tree.value) }
-    ensures named { IfOk result (λ found. IfSome found (λ next. next.tree.value.buffered.file ≡ source.tree.value.buffered.file)) }
-    ensures buffered { IfOk result (λ found. IfSome found (λ next. IsBuffered next.tree.value.buffered (H.view host.new).files)) }
-    ensures at_head { IfOk result (λ found. IfSome found (IsAtHead (H.view host.old) source.tree.value.buffered.file)) }
-    ensures damaged { IfErr result (DamageShown (H.view host.old) file (ShowsPairs file source.tree.value.tree)) }
-    ensures undamaged { IfErr result (NoFalseSourceDamage (H.view host.old) file source) }
-    ensures read { HasRead (P.agrees pages.new) (P.covers pages.old) (P.covers pages.new) (H.view host.old) (H.view host.new) source.tree.value.buffered.file }
-    ensures causes { ReadCost 2 (H.view host.old) (H.view host.new) result }
-    ensures ended { source.tree.value.tree.pairs ≤ source.tree.value.passed → (H.view host.new).reads ≡ (H.view host.old).reads }
-{
-    let head = source.head;
-    let Some(next) = source_of(host, pages, source.tree)? else {
-        return Ok(None);
-    };
-    match check_order(file, head, &next) {
-        Ok(()) => Ok(Some(next)),
-        Err(damage) => Err(ReadFault::Damaged(damage)),
     }
 }

@@ -4,14 +4,14 @@ ghost use Rattle.std.specs.BinaryHeap.{IsHeap, KeepsHeap, heap_items};
 ghost use Rattle.sasi_host.specs.View.{ReadCost};
 ghost use Rattle.sasi_host.specs.Damages.{DamageShown};
 ghost use Rattle.sasi_host.specs.PageReading.{CanRead, HasRead};
+ghost use Rattle.sasi_tokentree.specs.Damages.{ShowsPairs};
 ghost use Rattle.sasi_tokentree.specs.Reads.{NoFalseTreeDamage};
 ghost use Rattle.sasi_treemerge.specs.Held.{held_cmp};
 ghost use Rattle.sasi_treemerge.specs.Sources.{source_cmp};
 ghost use Rattle.sasi_treemerge.specs.Merges.{HeadsFirst, HeldFirst, HoldsMore, HoldsOne, HoldsTree};
-ghost use Rattle.sasi_treemerge.specs.MergeDamages.{ShowsPairs};
 
 use crate::held_pair::HeldPair;
-use crate::tree_source::{TreeSource, next_of, source_of};
+use crate::tree_source::{TreeSource, source_of};
 use sasi_host::{FileName, Host, PageReader, ReadFault};
 use sasi_tokentree::Tree;
 use sasi_types::{Pair, TreeRef};
@@ -20,7 +20,7 @@ use std::collections::BinaryHeap;
 
 /// A scan of the tree with this reference.
 pub fn scan_of(alloc: Global, file: FileName, list: TreeRef) -> Result<Box<Tree>, AllocError>
-    ensures { IfOk result (λ tree. tree.value ≡ record { buffered = record { file = file; page = None; bytes = [] }; tree = list; passed = 0 }) }
+    ensures { IfOk result (λ tree. tree.value ≡ record { buffered = record { file = file; page = None; bytes = [] }; tree = list; passed = 0; last = None }) }
 {
     let tree = Box::new(alloc, Tree::new(file, list))?;
     Ok(tree)
@@ -88,7 +88,7 @@ pub fn hold_tree<H: Host, P: PageReader>(
     };
     loop {
         hold(held, source.head)?;
-        let Some(next) = next_of(host, pages, file, source)? else {
+        let Some(next) = source_of(host, pages, source.tree)? else {
             return Ok(());
         };
         source = next;

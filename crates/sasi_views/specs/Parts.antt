@@ -1,6 +1,7 @@
 -- The components of parts.
 use Rattle.std.specs.Prelude.{◌≤◌, List, [], ◌∷◌, map}
 use Rattle.std.specs.List.{flat_map}
+use Rattle.sasi_host.specs.declared.name.FileName.{FileName}
 use Rattle.sasi_host.specs.Names.{data_name}
 use Rattle.sasi_manifest.specs.ListedFiles.{index_name}
 use Rattle.sasi_views.specs.declared.component.Component.{Component}
@@ -17,6 +18,17 @@ part_components (Map number) = component.Map number ∷ []
 -- those of the parts, one after another
 abbrev pub components_of : List Part → List Component
 components_of parts = flat_map part_components parts
+
+-- ---- their files
+
+-- the data file of a part, and its index files
+abbrev pub names_of : Part → List FileName
+names_of (File number indexes) = data_name number ∷ map (index_name number) indexes
+names_of (Map number) = []
+
+-- those of the parts of a view
+abbrev pub view_names : List Part → List FileName
+view_names parts = flat_map names_of parts
 
 -- no component stands twice among those of the parts
 abbrev pub ListsOnce : List Part → Type 0

@@ -8,7 +8,7 @@ use Rattle.sasi_host.specs.declared.name.FileName.{FileName}
 use Rattle.sasi_host.specs.Names.{Bytes, Folder}
 use Rattle.sasi_host.specs.Buffered.{Buffered, IsBuffered}
 use Rattle.sasi_host.specs.View.{contents_in}
-use Rattle.sasi_tokentree.specs.Scans.{PairScan}
+use Rattle.sasi_tokentree.specs.Scans.{IsAtLast, PairScan}
 use Rattle.sasi_datawrite.specs.Format.{Content}
 use Rattle.sasi_ranges.specs.declared.entry.Entry.{Entry}
 use Rattle.sasi_ranges.specs.Entries.{Rises}
@@ -44,10 +44,14 @@ module _ (old new : Option Folder) where
   buffered_stays : (b : Buffered) → IsSame b.file → IsBuffered b old → IsBuffered b new
   buffered_stays b same is = λ page bytes this reads. is page bytes this (sym same ∙ reads)
 
+  at_last_stays : (scan : PairScan) → IsSame scan.buffered.file → IsAtLast scan old → IsAtLast scan new
+  at_last_stays scan same is = λ bytes reads. is bytes (sym same ∙ reads)
+
   pub scans_stays : (file : FileName) (scan : PairScan) → IsSame file → ScansKeys file scan old → ScansKeys file scan new
   scans_stays file scan same is = record {
     named = is.named;
     buffered = buffered_stays scan.buffered (named_same scan file is.named same) is.buffered;
+    at_last = at_last_stays scan (named_same scan file is.named same) is.at_last;
     footer = λ bytes reads. is.footer bytes (sym same ∙ reads);
   }
 

@@ -27,6 +27,7 @@ module _ (a b : View) where
     at_head = record {
       passed = is.at_head.passed;
       stands = (is.at_head.stands.0, is.at_head.stands.1, λ bytes reads. is.at_head.stands.2 bytes (sym same ∙ reads));
+      last_is = is.at_head.last_is;
     };
   }
 

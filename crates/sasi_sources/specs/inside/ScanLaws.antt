@@ -12,6 +12,8 @@ use Rattle.sasi_host.specs.Names.{Bytes, Folder, data_name}
 use Rattle.sasi_host.specs.View.{contents_in}
 use Rattle.sasi_dataread.specs.Opened.{OpenDataFile}
 use Rattle.sasi_dataread.specs.ReadCosts.{file_pages, progress}
+use Rattle.sasi_dataread.specs.Scans.{DataScan, pairs_of}
+use Rattle.sasi_tokentree.specs.Scans.{IsAtLast}
 use Rattle.sasi_datawrite.specs.Format.{Content}
 use Rattle.sasi_manifest.specs.declared.files.ListedFile.{ListedFile}
 use Rattle.sasi_memindex.specs.Book.{Book}
@@ -53,6 +55,11 @@ module _ (old new : Option Folder) (told : IsSome new → IsSome old) (files : L
       let here : contents_in new b.file ≡ contents_in old b.file = subst (λ (name : FileName). contents_in new name ≡ contents_in old name) (sym named) stays in
       λ page bytes at reads. is page bytes at (sym here ∙ reads)
 
+  last_stays : (scan : DataScan) → contents_in new scan.opened.file ≡ contents_in old scan.opened.file → scan.pairs_buffered.file ≡ scan.opened.file → IsAtLast (pairs_of scan) old → IsAtLast (pairs_of scan) new
+  last_stays scan stays named is =
+      let here : contents_in new scan.pairs_buffered.file ≡ contents_in old scan.pairs_buffered.file = subst (λ (name : FileName). contents_in new name ≡ contents_in old name) (sym named) stays in
+      λ bytes reads. is bytes (sym here ∙ reads)
+
   step_stays : (maps : List MemtableView) (source : Source) → IsListedSource old files types source → CanStep old maps source → CanStep new maps source
   step_stays maps (Map position) listed can = can
   step_stays maps (File scan) listed can = record {
@@ -61,6 +68,11 @@ module _ (old new : Option Folder) (told : IsSome new → IsSome old) (files : L
     named = can.named;
     pairs_buffered = buffered_stays scan.opened.file scan.pairs_buffered (same_of scan.opened listed) can.pairs_named can.pairs_buffered;
     buffered = buffered_stays scan.opened.file scan.buffered (same_of scan.opened listed) can.named can.buffered;
+    at_last = last_stays scan (same_of scan.opened listed) can.pairs_named can.at_last;
+    last_key = record {
+      holds = λ bytes reads. can.last_key.holds bytes (sym (same_of scan.opened listed) ∙ reads);
+      content = λ bytes p content agrees reads data_file of keys. can.last_key.content bytes p content agrees (sym (same_of scan.opened listed) ∙ reads) data_file of keys;
+    };
   }
 
   listed_stays : (source : Source) → IsListedSource old files types source → IsListedSource new files types source
@@ -105,7 +117,7 @@ module _ (old new : Option Folder) (told : IsSome new → IsSome old) (files : L
   lefts_stay p maps (head ∷ heads) (Map position ∷ sources) (left ∷ each) listed are = (are.0, lefts_stay p maps heads sources each listed.1 are.1)
   lefts_stay p maps (head ∷ heads) (File scan ∷ sources) (left ∷ each) listed are =
       let is = are.0.behind_it in (
-        record { head_is = are.0.head_is; behind_it = record { content = is.content; is = opened_stays scan.opened p is.content listed.0 is.is; left_is = is.left_is } },
+        record { head_is = are.0.head_is; behind_it = record { content = is.content; is = opened_stays scan.opened p is.content listed.0 is.is; agrees = is.agrees; left_is = is.left_is } },
         lefts_stay p maps heads sources each listed.1 are.1,
       )
 
@@ -119,7 +131,7 @@ module _ (old new : Option Folder) (told : IsSome new → IsSome old) (files : L
   ready_stays (Some scan) maps ready =
       let can = ready.0 in
       let of = ready.1 in (
-        record { can = steps_stay maps scan.sources of.listed can.can; counted = can.counted },
+        record { can = steps_stay maps scan.sources of.listed can.can; counted = can.counted; given = can.given },
         scan_stays maps scan of,
       )
 

@@ -7,7 +7,7 @@ use Rattle.sasi_host.specs.PageReading.{HasRead}
 use Rattle.sasi_host.specs.Buffered.{IsBuffered}
 use Rattle.sasi_tokentree.specs.Format.{HasTree}
 use Rattle.sasi_tokentree.specs.Heights.{height}
-use Rattle.sasi_tokentree.specs.Scans.{HasPassed, ReadsEntry, ReadsHeader, IsEntryBuffered}
+use Rattle.sasi_tokentree.specs.Scans.{HasPassed, ReadsEntry, ReadsHeader, IsAtLast, IsEntryBuffered}
 use Rattle.sasi_datawrite.specs.Format.{Content, header}
 use Rattle.sasi_dataread.specs.Reads.{IsOpenOn, ReadsWithin}
 use Rattle.sasi_dataread.specs.Scans.{KeysAreBytes}
@@ -29,6 +29,7 @@ invariant-loop-turn g l =
       pairs_buffered : IsBuffered l.tree.buffered (view l.host).files;
       buffered : IsBuffered l.buffered (view l.host).files;
       entry_buffered : IsEntryBuffered l.tree l.next;
+      at_last : IsAtLast l.tree (view l.host).files;
       tree : l.tree.tree ≡ l.opened.tree;
       passed : IsSome l.next → HasPassed l.tree.tree l.tree.passed;
       entry : ReadsEntry (view l.fn.host) l.opened.file l.opened.tree l.tree.passed l.next;

@@ -7,6 +7,7 @@ use Rattle.sasi_formats.specs.Headers.{file_header}
 use Rattle.sasi_formats.specs.Parts.{ShowsBrokenPart}
 use Rattle.sasi_framing.proofs.Reading.{framed, has_mark, header_shows, mark_shows, numbers_show}
 use Rattle.sasi_dataread.specs.HeaderAndFooter.{data_framing}
+use Rattle.sasi_dataread.proofs.Footers.{counts_one}
 use Rattle.sasi_dataread.proofs.footer.decode.Goals as goal
 
 pub returns-in_err-check_mark-clause-damaged : goal.returns-in_err-check_mark-clause-damaged
@@ -38,3 +39,6 @@ pub returns-clause-ok : goal.returns-clause-ok
 returns-clause-ok c bytes read =
     framed data_framing c.args.file c.args.size c.args.footer.now _ _ bytes c.requires.footer c.requires.size c.split_at.ensures.front c.split_at.ensures.back read.end c.args.header.now tt c.in_ok-numbers.numbers read.begins
     (subst (λ (first : Bytes). Encodes (file_header first 0) tt c.args.header.now) c.magic.ensures c.in_ok-check_header.ensures.is) c.in_ok-numbers.ensures.is c.in_ok-check_mark.ensures.is
+
+pub returns-clause-some : goal.returns-clause-some
+returns-clause-some c = counts_one _ c.in_ok-numbers.numbers _ c.in_ok-numbers.ensures.is

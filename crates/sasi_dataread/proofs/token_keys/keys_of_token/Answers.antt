@@ -17,9 +17,10 @@ use Rattle.sasi_tokentree.specs.Scans.{ReadsEntry, PairScan}
 use Rattle.sasi_datawrite.specs.Format.{header}
 use Rattle.sasi_dataread.specs.declared.token_keys.PlacedKey.{PlacedKey}
 use Rattle.sasi_dataread.specs.Finds.{token_reads}
+use Rattle.sasi_tokentree.proofs.Rising.{last_still}
 use Rattle.sasi_dataread.proofs.Laws.{pairs_are}
 use Rattle.sasi_dataread.proofs.ReadChains.{causes_fault, causes_ok, passes_on, there_same}
-use Rattle.sasi_dataread.proofs.DataScan.{entry_before, entry_of, no_false_tree, open_same, partition_shown, steps_to_next, tree_shown}
+use Rattle.sasi_dataread.proofs.DataScan.{entry_before, entry_of, no_false_tree, open_same, pairs_shown, partition_shown, steps_to_next, tree_shown}
 use Rattle.sasi_dataread.proofs.Finding.{first_causes, first_passes, no_false_before, no_false_here, one_more}
 use Rattle.sasi_dataread.proofs.Gathering.{Gathers, GathersStored, gathers_all, gathers_first, gathers_none, gathers_on, key_costs, key_stands, stored_all, stored_first, stored_none, stored_on}
 use Rattle.sasi_dataread.proofs.Looking.{header_before, header_of}
@@ -48,6 +49,7 @@ next-requires g c =
         agrees = c.add_key.ensures.read.agrees;
         buffered = buffered_after c.loop-turn.tree.buffered v w change here.pairs_buffered;
       };
+      last = last_still v w c.loop-turn.tree.buffered.file c.loop-turn.tree.buffered.file c.loop-turn.tree.tree c.loop-turn.tree.passed c.loop-turn.tree.last change refl here.at_last;
     }
 
 pub add_key-requires : goal.add_key-requires
@@ -125,6 +127,7 @@ loop-turn-init g c =
       pairs_buffered = c.first.ensures.read.buffered;
       buffered = subst (λ (h : Buffered). IsBuffered h (g.H.Host.view c.first.new.host).files) (sym c.buffered_file-buffered.ensures) (λ page bytes is. absurd (cc));
       entry_buffered = c.in_ok-next.ensures.entry_buffered;
+      at_last = c.in_ok-next.ensures.at_last;
       tree = c.first.ensures.tree ∙ ap (λ (t : PairScan). t.tree) c.tree-tree.ensures;
       passed = c.in_ok-next.ensures.passed;
       entry = entry_of v c.args.opened.now c.tree-tree.result.buffered.file c.tree-tree.result.tree c.first.new.self.passed c.in_ok-next.next file_is
@@ -196,7 +199,7 @@ pub returns-in_err-next-2-clause-damaged : goal.returns-in_err-next-2-clause-dam
 returns-in_err-next-2-clause-damaged g c =
     let p = err_from_is_err_and c.from_residual-in_err-next-2.result c.from_residual-in_err-next-2.ensures.1 in
     let v = g.H.Host.view c.args.host.now in
-    rw (p.1, p.2) (tree_shown (λ index. index ≡ c.loop-turn.tree.passed) v c.args.opened.now c.loop-turn.tree.buffered.file c.loop-turn.tree.tree
+    rw (p.1, p.2) (pairs_shown (λ index. index ≡ c.loop-turn.tree.passed) v c.args.opened.now c.loop-turn.tree.buffered.file c.loop-turn.tree.tree
     c.in_err-next-2.field-0.0 c.loop-turn.invariant.file c.loop-turn.invariant.tree
     (shown_before _ v _ c.loop-turn.tree.buffered.file c.in_err-next-2.field-0.0
     (then_same _ _ _ Same c.loop-turn.invariant.read.changes c.add_key.ensures.read.changes) c.in_err-next-2.ensures.damaged))
@@ -260,6 +263,7 @@ loop-turn-preserved g c =
       pairs_buffered = c.next.ensures.read.buffered;
       buffered = buffered_after c.add_key.new.buffered w (g.H.Host.view c.next.new.host) c.next.ensures.read.changes c.add_key.ensures.buffered;
       entry_buffered = c.in_ok-next-2.ensures.entry_buffered;
+      at_last = c.next.ensures.at_last;
       tree = c.next.ensures.tree ∙ here.tree;
       passed = c.in_ok-next-2.ensures.passed;
       entry = entry_of v c.args.opened.now c.loop-turn.tree.buffered.file c.loop-turn.tree.tree c.next.new.self.passed c.in_ok-next-2.next here.file

@@ -1,4 +1,4 @@
-use Rattle.std.proofs.Common.{◌≡◌, Option, None, Some, Ok, Err, ap, inl, inr, subst, arith}
+use Rattle.std.proofs.Common.{◌≡◌, ◌∙◌, Option, None, Some, Ok, Err, ap, inl, inr, refl, subst, arith}
 use Rattle.std.proofs.lemmas.Result.{err_from_is_err_and}
 use Rattle.sasi_host.proofs.PageReadingLaws.{read_of, read_then}
 use Rattle.sasi_types.specs.declared.tree.Pair.{Pair}
@@ -7,28 +7,31 @@ use Rattle.sasi_host.proofs.BufferedLaws.{buffered_after}
 use Rattle.sasi_host.proofs.DamageLaws.{shown_before}
 use Rattle.sasi_tokentree.specs.Scans.{PairScan, PassesOne, ReadsEntry, ReadsHeader, ReadsNextPair, IsEntryBuffered}
 use Rattle.sasi_tokentree.proofs.EntryPages.{entry_pages}
+use Rattle.sasi_tokentree.proofs.Rising.{last_still}
 use Rattle.sasi_dataread.proofs.Pairs.{none_left}
 use Rattle.sasi_dataread.proofs.Pages.{reads_none}
 use Rattle.sasi_host.proofs.CauseLaws.{ok_reads, fault_reads, reads_on, reads_within}
-use Rattle.sasi_dataread.proofs.DataScan.{IsShort, all_pairs, scan_reads_once, scan_stops, scan_stops_behind, entry_of, partition_shown, tree_shown, steps_to_next, no_false_tree, steps_to_partition, no_false_offset}
+use Rattle.sasi_dataread.proofs.DataScan.{IsShort, all_pairs, scan_reads_once, scan_stops, scan_stops_behind, entry_of, pairs_shown, partition_shown, steps_to_next, no_false_tree, no_false_offset}
+use Rattle.sasi_dataread.proofs.KeyOrder.{keys_shown, last_key_given, last_key_still, no_false_keys, no_false_of, reads_next, told_reads}
 use Rattle.sasi_dataread.proofs.Looking.{header_of, leads_there}
 use Rattle.sasi_dataread.proofs.walk.next_partition.Goals as goal
 
 pub returns-in_err-next-clause-damaged : goal.returns-in_err-next-clause-damaged
 returns-in_err-next-clause-damaged g c =
     let p = err_from_is_err_and c.from_residual.result c.from_residual.ensures.1 in
-    rw (p.1, p.2) (tree_shown (λ index. index ≡ c.args.tree.now.passed) (g.H.Host.view c.args.host.now) c.args.opened.now
+    rw (p.1, p.2) (pairs_shown (λ index. index ≡ c.args.tree.now.passed) (g.H.Host.view c.args.host.now) c.args.opened.now
     c.args.tree.now.buffered.file c.args.tree.now.tree c.in_err-next.field-0.0 c.requires.file c.requires.tree c.in_err-next.ensures.damaged)
 
 pub returns-in_err-next-clause-undamaged : goal.returns-in_err-next-clause-undamaged
 returns-in_err-next-clause-undamaged g c =
     let p = err_from_is_err_and c.from_residual.result c.from_residual.ensures.1 in
-    rw (p.1, p.2) (no_false_tree (g.H.Host.view c.args.host.now) c.args.opened.now c.args.tree.now.buffered.file c.args.tree.now.tree
+    rw (p.1, p.2) (no_false_of (g.H.Host.view c.args.host.now) c.args.opened.now c.args.tokens c.in_err-next.field-0.0
+    (no_false_tree (g.H.Host.view c.args.host.now) c.args.opened.now c.args.tree.now.buffered.file c.args.tree.now.tree
     c.in_err-next.field-0.0 c.requires.file c.requires.tree (λ bytes is. (g.met.H.Host.sound c.args.host.now).fits c.args.opened.now.file bytes
-    is) c.in_err-next.ensures.undamaged)
+    is) c.in_err-next.ensures.undamaged))
 
 pub returns-in-None-clause-ok : goal.returns-in-None-clause-ok
-returns-in-None-clause-ok g c partitioner content is have =
+returns-in-None-clause-ok g c partitioner content agrees is have =
     let view = g.H.Host.view c.args.host.now in
     let gives = subst (λ (o : Option Pair). ReadsNextPair view c.args.tree.now.buffered.file c.args.tree.now.tree c.args.tree.now.passed c.next.new.self.passed o) c.in-None.is c.in_ok-next.ensures.ok in
     let took = steps_to_next view c.args.opened.now c.args.tree.now.buffered.file c.args.tree.now.tree c.args.tree.now.passed c.next.new.self.passed None
@@ -64,6 +67,8 @@ returns-clause-passes g c =
     let header = subst (λ (o : Option Pair). ReadsHeader v tree.buffered.file tree.tree after o) c.in-Some.is c.in_ok-next.ensures.header in (
       omega (arith, one.0, ap (λ (t : TreeRef). t.pairs) c.requires.tree),
       one.1,
+      pair.token,
+      c.token_by-token.ensures,
       leads_there v (g.H.Host.view c.next.new.host) opened tree.passed after pair c.in_ok-key.key c.in_ok-key.part one.1
           (entry_of v opened tree.buffered.file tree.tree after (Some pair) c.requires.file c.requires.tree entry)
           (header_of v opened tree.buffered.file tree.tree after (Some pair) c.requires.file c.requires.tree header) c.next.ensures.read.changes c.in_ok-key.ensures.begins c.in_ok-key.ensures.stands,
@@ -83,12 +88,13 @@ returns-in_err-key-clause-undamaged g c =
     let p = err_from_is_err_and c.from_residual-in_err-key.result c.from_residual-in_err-key.ensures.1 in
     let view = g.H.Host.view c.args.host.now in
     let gives = subst (λ (o : Option Pair). ReadsNextPair view c.args.tree.now.buffered.file c.args.tree.now.tree c.args.tree.now.passed c.next.new.self.passed o) c.in-Some.is c.in_ok-next.ensures.ok in
-    rw (p.1, p.2) (no_false_offset view _ c.args.opened.now c.args.tree.now.passed c.next.new.self.passed c.in-Some.pair c.in_err-key.field-0.0
+    rw (p.1, p.2) (no_false_of view c.args.opened.now c.args.tokens c.in_err-key.field-0.0
+    (no_false_offset view _ c.args.opened.now c.args.tree.now.passed c.next.new.self.passed c.in-Some.pair c.in_err-key.field-0.0
     (λ partitioner content is have.
     steps_to_next view c.args.opened.now c.args.tree.now.buffered.file c.args.tree.now.tree c.args.tree.now.passed c.next.new.self.passed
     (Some c.in-Some.pair) c.requires.file c.requires.tree (λ bytes reads. (g.met.H.Host.sound c.args.host.now).fits c.args.opened.now.file bytes
     reads) gives partitioner content is have)
-    c.next.ensures.read.changes c.in_err-key.ensures.undamaged)
+    c.next.ensures.read.changes c.in_err-key.ensures.undamaged))
 
 pub returns-in_err-next-clause-buffered : goal.returns-in_err-next-clause-buffered
 returns-in_err-next-clause-buffered g c = buffered_after c.args.buffered.now _ _ c.next.ensures.read.changes c.requires.buffered
@@ -173,17 +179,124 @@ returns-clause-reads g c partitioner content is have sequential =
     c.in_ok-next.ensures.ends).1 entry_buffered c.in_ok-key.ensures.page
 
 pub returns-clause-ok : goal.returns-clause-ok
-returns-clause-ok g c partitioner content is have =
-    let view = g.H.Host.view c.args.host.now in
-    let gives = subst (λ (o : Option Pair). ReadsNextPair view c.args.tree.now.buffered.file c.args.tree.now.tree c.args.tree.now.passed c.next.new.self.passed o) c.in-Some.is c.in_ok-next.ensures.ok in
-    let took = steps_to_next view c.args.opened.now c.args.tree.now.buffered.file c.args.tree.now.tree c.args.tree.now.passed c.next.new.self.passed
-    (Some c.in-Some.pair) c.requires.file c.requires.tree (λ bytes reads. (g.met.H.Host.sound c.args.host.now).fits c.args.opened.now.file bytes
-    reads) gives partitioner content is have in
-    steps_to_partition view _ c.args.opened.now c.args.tree.now.passed c.next.new.self.passed c.in-Some.pair c.in_ok-key.key c.in_ok-key.part partitioner
-    content is c.next.ensures.read.changes took c.in_ok-key.ensures.ok
+returns-clause-ok g c =
+    let v = g.H.Host.view c.args.host.now in
+    let opened = c.args.opened.now in
+    let tree = c.args.tree.now in
+    let gives = subst (λ (o : Option Pair). ReadsNextPair v tree.buffered.file tree.tree tree.passed c.next.new.self.passed o) c.in-Some.is c.in_ok-next.ensures.ok in
+    reads_next v (g.H.Host.view c.next.new.host) opened c.args.tokens tree.passed c.next.new.self.passed c.in-Some.pair c.token_by-token.result c.in_ok-key.key c.in_ok-key.part c.token_by-token.ensures c.next.ensures.read.changes
+    (steps_to_next v opened tree.buffered.file tree.tree tree.passed c.next.new.self.passed (Some c.in-Some.pair) c.requires.file c.requires.tree
+    (λ bytes reads. (g.met.H.Host.sound c.args.host.now).fits opened.file bytes reads) gives)
+    c.in_ok-key.ensures.ok
 
 pub returns-in_err-key-clause-read : goal.returns-in_err-key-clause-read
 returns-in_err-key-clause-read g c = read_then _ _ _ _ _ _ _ _ _ (read_of _ _ _ _ _ _ _ _ c.requires.file c.next.ensures.read) c.partition_of_pair.ensures.read
 
 pub returns-clause-read : goal.returns-clause-read
 returns-clause-read g c = read_then _ _ _ _ _ _ _ _ _ (read_of _ _ _ _ _ _ _ _ c.requires.file c.next.ensures.read) c.partition_of_pair.ensures.read
+
+pub returns-in_err-key-clause-at_last : goal.returns-in_err-key-clause-at_last
+returns-in_err-key-clause-at_last g c =
+    let tree = c.next.new.self in
+    last_still _ _ tree.buffered.file tree.buffered.file tree.tree tree.passed tree.last c.partition_of_pair.ensures.read.changes refl c.next.ensures.at_last
+
+pub returns-clause-at_last : goal.returns-clause-at_last
+returns-clause-at_last g c =
+    let tree = c.next.new.self in
+    last_still _ _ tree.buffered.file tree.buffered.file tree.tree tree.passed tree.last c.partition_of_pair.ensures.read.changes refl c.next.ensures.at_last
+
+pub returns-in_err-check_behind-clause-err : goal.returns-in_err-check_behind-clause-err
+returns-in_err-check_behind-clause-err g c =
+    let p = err_from_is_err_and c.from_residual-in_err-check_behind.result c.from_residual-in_err-check_behind.ensures.1 in
+    let one = subst (λ (o : Option Pair). PassesOne c.args.tree.now c.next.new.self o) c.in-Some.is c.in_ok-next.ensures.ends in
+    rw p.1 (inr one.1)
+
+pub returns-in_err-check_behind-clause-reads : goal.returns-in_err-check_behind-clause-reads
+returns-in_err-check_behind-clause-reads g c partitioner content is have sequential =
+    let p = err_from_is_err_and c.from_residual-in_err-check_behind.result c.from_residual-in_err-check_behind.ensures.1 in
+    let v = g.H.Host.view c.args.host.now in
+    let opened = c.args.opened.now in
+    let tree = c.args.tree.now in
+    let short : IsShort v opened.file = λ bytes reads. (g.met.H.Host.sound c.args.host.now).fits opened.file bytes reads in
+    let gives = subst (λ (o : Option Pair). ReadsNextPair v tree.buffered.file tree.tree tree.passed c.next.new.self.passed o) c.in-Some.is c.in_ok-next.ensures.ok in
+    let took = steps_to_next v opened tree.buffered.file tree.tree tree.passed c.next.new.self.passed (Some c.in-Some.pair) c.requires.file c.requires.tree short gives partitioner content is have in
+    rw p.1 (scan_stops_behind v (g.H.Host.view c.next.new.host) opened tree c.args.buffered.now partitioner content _ _ is have short c.requires.tree sequential c.next.ensures.causes.reads
+    c.next.new.self.passed c.in-Some.pair _ c.next.ensures.read.changes took c.partition_of_pair.ensures.reads)
+
+pub returns-in_err-check_behind-clause-pairs_buffered : goal.returns-in_err-check_behind-clause-pairs_buffered
+returns-in_err-check_behind-clause-pairs_buffered g c = buffered_after c.next.new.self.buffered _ _ c.partition_of_pair.ensures.read.changes c.next.ensures.read.buffered
+
+pub returns-in_err-check_behind-clause-read : goal.returns-in_err-check_behind-clause-read
+returns-in_err-check_behind-clause-read g c = read_then _ _ _ _ _ _ _ _ _ (read_of _ _ _ _ _ _ _ _ c.requires.file c.next.ensures.read) c.partition_of_pair.ensures.read
+
+pub returns-in_err-check_behind-clause-at_last : goal.returns-in_err-check_behind-clause-at_last
+returns-in_err-check_behind-clause-at_last g c =
+    let tree = c.next.new.self in
+    last_still _ _ tree.buffered.file tree.buffered.file tree.tree tree.passed tree.last c.partition_of_pair.ensures.read.changes refl c.next.ensures.at_last
+
+pub check_behind-requires : goal.check_behind-requires
+check_behind-requires g c = c.in_ok-key.ensures.in_table.has
+
+pub returns-in_err-check_behind-clause-damaged : goal.returns-in_err-check_behind-clause-damaged
+returns-in_err-check_behind-clause-damaged g c =
+    let p = err_from_is_err_and c.from_residual-in_err-check_behind.result c.from_residual-in_err-check_behind.ensures.1 in
+    let v = g.H.Host.view c.args.host.now in
+    let opened = c.args.opened.now in
+    let tree = c.args.tree.now in
+    let pair = c.in-Some.pair in
+    let after = c.next.new.self.passed in
+    let one = subst (λ (o : Option Pair). PassesOne tree c.next.new.self o) c.in-Some.is c.in_ok-next.ensures.ends in
+    let entry = subst (λ (o : Option Pair). ReadsEntry v tree.buffered.file tree.tree after o) c.in-Some.is c.in_ok-next.ensures.stands in
+    rw (p.1, p.2) (keys_shown v (g.H.Host.view c.next.new.host) opened c.args.tokens tree.passed after pair c.token_by-token.result c.in_ok-key.key c.in_ok-key.part c.token_by-token.ensures one.1 c.next.ensures.read.changes
+    (entry_of v opened tree.buffered.file tree.tree after (Some pair) c.requires.file c.requires.tree entry) c.in_ok-key.ensures.stands
+    c.file.result c.args.last.now c.in_err-check_behind.field-0.0 (c.file.ensures ∙ c.partition_of_pair.ensures.named) c.requires.last c.in_err-check_behind.ensures.damaged)
+
+pub returns-in_err-check_behind-clause-undamaged : goal.returns-in_err-check_behind-clause-undamaged
+returns-in_err-check_behind-clause-undamaged g c =
+    let p = err_from_is_err_and c.from_residual-in_err-check_behind.result c.from_residual-in_err-check_behind.ensures.1 in
+    let v = g.H.Host.view c.args.host.now in
+    let opened = c.args.opened.now in
+    let tree = c.args.tree.now in
+    let pair = c.in-Some.pair in
+    let after = c.next.new.self.passed in
+    let gives = subst (λ (o : Option Pair). ReadsNextPair v tree.buffered.file tree.tree tree.passed after o) c.in-Some.is c.in_ok-next.ensures.ok in
+    rw (p.1, p.2) (no_false_keys v opened c.args.tokens c.file.result tree.passed after pair.place c.args.last.now (c.token_by-token.result, c.in_ok-key.key, c.in_ok-key.part) c.in_err-check_behind.field-0.0 c.requires.last
+    (reads_next v (g.H.Host.view c.next.new.host) opened c.args.tokens tree.passed after pair c.token_by-token.result c.in_ok-key.key c.in_ok-key.part c.token_by-token.ensures c.next.ensures.read.changes
+    (steps_to_next v opened tree.buffered.file tree.tree tree.passed after (Some pair) c.requires.file c.requires.tree (λ bytes reads. (g.met.H.Host.sound c.args.host.now).fits opened.file bytes reads) gives)
+    c.in_ok-key.ensures.ok)
+    c.in_err-check_behind.ensures.damaged)
+
+pub returns-in_err-check_behind-clause-causes : goal.returns-in_err-check_behind-clause-causes
+returns-in_err-check_behind-clause-causes g c =
+    let p = err_from_is_err_and c.from_residual-in_err-check_behind.result c.from_residual-in_err-check_behind.ensures.1 in
+    rw (p.1, p.2) (told_reads _ _ 2052 _ c.in_err-check_behind.field-0.0 c.in_err-check_behind.ensures.read
+    (reads_on _ _ _ _ 2050 2052 _ _
+    (omega (arith, entry_pages c.args.tree.now.buffered.page c.args.tree.now.tree c.args.tree.now.passed)) c.in_ok-next.ensures.causes
+    c.in_ok-key.ensures.causes))
+
+pub returns-in-None-clause-last : goal.returns-in-None-clause-last
+returns-in-None-clause-last g c =
+    let one = subst (λ (o : Option Pair). PassesOne c.args.tree.now c.next.new.self o) c.in-None.is c.in_ok-next.ensures.ends in
+    last_key_still _ _ c.args.opened.now c.args.tokens c.args.tree.now.passed c.next.new.self.passed c.args.last.now c.next.ensures.read.changes (ap (λ (w : PairScan). w.passed) one.1) c.requires.last
+
+pub returns-clause-rises : goal.returns-clause-rises
+returns-clause-rises g c = c.in_ok-check_behind.ensures.rises
+
+pub returns-clause-last : goal.returns-clause-last
+returns-clause-last g c =
+    let v = g.H.Host.view c.args.host.now in
+    let w = g.H.Host.view c.next.new.host in
+    let opened = c.args.opened.now in
+    let tree = c.args.tree.now in
+    let pair = c.in-Some.pair in
+    let after = c.next.new.self.passed in
+    let token = c.token_by-token.result in
+    let one = subst (λ (o : Option Pair). PassesOne tree c.next.new.self o) c.in-Some.is c.in_ok-next.ensures.ends in
+    let entry = subst (λ (o : Option Pair). ReadsEntry v tree.buffered.file tree.tree after o) c.in-Some.is c.in_ok-next.ensures.stands in
+    let gives = subst (λ (o : Option Pair). ReadsNextPair v tree.buffered.file tree.tree tree.passed after o) c.in-Some.is c.in_ok-next.ensures.ok in
+    last_key_still w _ opened c.args.tokens after after (Some (record { token = token; key = c.in_ok-key.key })) c.partition_of_pair.ensures.read.changes refl
+    (last_key_given v w opened c.args.tokens tree.passed after pair token c.in_ok-key.key c.in_ok-key.part c.token_by-token.ensures one.1 c.next.ensures.read.changes
+    (entry_of v opened tree.buffered.file tree.tree after (Some pair) c.requires.file c.requires.tree entry) c.in_ok-key.ensures.stands
+    (reads_next v w opened c.args.tokens tree.passed after pair token c.in_ok-key.key c.in_ok-key.part c.token_by-token.ensures c.next.ensures.read.changes
+    (steps_to_next v opened tree.buffered.file tree.tree tree.passed after (Some pair) c.requires.file c.requires.tree (λ bytes reads. (g.met.H.Host.sound c.args.host.now).fits opened.file bytes reads) gives)
+    c.in_ok-key.ensures.ok))

@@ -17,6 +17,7 @@ keys-init g c =
     record {
       can = c.requires.read;
       read = reads_nothing _ _ v c.args.tree.now.buffered c.requires.read.agrees c.requires.read.buffered;
+      at_last = c.requires.last;
       tree_is = refl;
       gives = λ left is. (left, passed_none c.args.floor left, is);
       pays = λ most is. (most, is, omega arith);
@@ -124,6 +125,7 @@ keys-preserved g c =
     record {
       can = can_still_on _ _ _ _ v w scan.buffered after.buffered inv.can c.next.ensures.read;
       read = reads_then _ _ _ _ _ _ _ _ _ _ _ inv.read c.next.ensures.read;
+      at_last = c.next.ensures.at_last;
       tree_is = c.next.ensures.tree ∙ inv.tree_is;
       gives = λ left is.
           let here = inv.gives left is in

@@ -2,7 +2,7 @@ use Rattle.std.proofs.Common.{inl}
 use Rattle.std.proofs.lemmas.Result.{err_from_is_err_and}
 use Rattle.sasi_host.proofs.ChangeLaws.{stays}
 use Rattle.sasi_host.proofs.DamageLaws.{shown_as}
-use Rattle.sasi_treemerge.specs.MergeDamages.{ShowsPairs}
+use Rattle.sasi_tokentree.specs.Damages.{ShowsPairs}
 use Rattle.sasi_indexread.specs.Collects.{ShowsList}
 use Rattle.sasi_indexread.proofs.Scanning.{no_false_tree}
 use Rattle.sasi_indexread.proofs.collect.add_list.Goals as goal

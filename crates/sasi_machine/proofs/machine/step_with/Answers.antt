@@ -3,7 +3,7 @@ use Rattle.std.proofs.lemmas.Result.{IfOk-weaker}
 use Rattle.sasi_model.specs.Pieces.{piece_of}
 use Rattle.sasi_machine.specs.Prepares.{Prepares}
 use Rattle.sasi_machine.proofs.CursorTurns.{opens_from}
-use Rattle.sasi_machine.proofs.MachineTurns.{answered_turn, created_turn, defined_turn, done_turn, selected_turn, written_turn}
+use Rattle.sasi_machine.proofs.MachineTurns.{answered_turn, created_turn, defined_turn, files_turn, selected_turn, told_turn, written_turn}
 use Rattle.sasi_machine.proofs.machine.step_with.Goals as goal
 
 pub returns-in-Answered-clause-session : goal.returns-in-Answered-clause-session
@@ -34,7 +34,13 @@ pub returns-in-Flush-clause-session : goal.returns-in-Flush-clause-session
 returns-in-Flush-clause-session g c =
     let s = c.args.database.now in
     let p = piece_of c.args.end c.args.piece.now in
-    done_turn s p c.args.cursors.now c.prepare.new.reply c.in_ok-outcome.field-0 c.in-Flush.is c.in_ok-outcome.ensures.prepares
+    files_turn s p c.args.cursors.now c.prepare.new.reply c.in_ok-outcome.field-0 c.in-Flush.is c.in_ok-outcome.ensures.prepares
+
+pub returns-in-Trace-clause-session : goal.returns-in-Trace-clause-session
+returns-in-Trace-clause-session g c =
+    let s = c.args.database.now in
+    let p = piece_of c.args.end c.args.piece.now in
+    told_turn s p c.args.cursors.now c.prepare.new.reply c.in_ok-outcome.field-0 c.in-Trace.is c.in_ok-outcome.ensures.prepares
 
 pub returns-in_ok-print_rows-in-Select-clause-session : goal.returns-in_ok-print_rows-in-Select-clause-session
 returns-in_ok-print_rows-in-Select-clause-session g c =

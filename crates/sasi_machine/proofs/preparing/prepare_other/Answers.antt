@@ -9,11 +9,6 @@ returns-in-CreateTable c =
     subst (λ (statement : Statement). IfOk c.prepare_table.result (IsPreparedFor (known_by c.args.schema.now c.args.builder.now.max_timestamp) statement c.args.reply.now c.prepare_table.new.reply)) (sym c.in-CreateTable.is)
     (for_any (known_by c.args.schema.now c.args.builder.now.max_timestamp) _ c.args.reply.now c.prepare_table.new.reply c.prepare_table.result c.prepare_table.ensures)
 
-pub returns-in-Flush : goal.returns-in-Flush
-returns-in-Flush c =
-    subst (λ (statement : Statement). IfOk c.prepare_flush.result (IsPreparedFor (known_by c.args.schema.now c.args.builder.now.max_timestamp) statement c.args.reply.now c.prepare_flush.new.reply)) (sym c.in-Flush.is)
-    (for_any (known_by c.args.schema.now c.args.builder.now.max_timestamp) _ c.args.reply.now c.prepare_flush.new.reply c.prepare_flush.result c.prepare_flush.ensures)
-
 pub returns-in-CreateIndex : goal.returns-in-CreateIndex
 returns-in-CreateIndex c =
     subst (λ (statement : Statement). IfOk c.prepare_index.result (IsPreparedFor (known_by c.args.schema.now c.args.builder.now.max_timestamp) statement c.args.reply.now c.prepare_index.new.reply)) (sym c.in-CreateIndex.is)

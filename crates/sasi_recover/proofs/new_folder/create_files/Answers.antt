@@ -9,7 +9,7 @@ use Rattle.sasi_manifest.specs.Listings.{rewrite_edits}
 use Rattle.sasi_folder.proofs.FolderLaws.{kinds_apart}
 use Rattle.sasi_recover.specs.declared.opened.Opened.{Opened}
 use Rattle.sasi_recover.proofs.FirstFiles.{kept_first}
-use Rattle.sasi_recover.proofs.FirstStore.{create_moments, first_ready, first_apply, first_serves, first_short, fresh_moments, fresh_unsealed, is_rewritten, log_fresh, log_room, log_any_change, made_is, made_listing, made_any_change, still_fresh}
+use Rattle.sasi_recover.proofs.FirstStore.{create_moments, first_exactly, first_ready, first_apply, first_serves, first_short, fresh_moments, fresh_unsealed, is_rewritten, log_fresh, log_room, log_any_change, made_is, made_listing, made_any_change, still_fresh}
 use Rattle.sasi_recover.proofs.new_folder.create_files.Goals as goal
 
 pub returns-in_err-log-clause-any_moment : goal.returns-in_err-log-clause-any_moment
@@ -76,6 +76,18 @@ returns-clause-ready g c =
     let opened : Opened = record { manifest = c.in_ok-manifest.manifest; log = c.in_ok-log.log; tables = c.new.result; numbers = record { manifest = 1; log = 1; «data» = 0; index = 0; part = 0 }; greatest = 0 } in
     first_ready c.args.partitioner opened (rewritten, c.in_ok-manifest.ensures.number, c.in_ok-log.ensures.file, c.new.ensures.items, refl, refl) now
     c.in_ok-manifest.ensures.room room c.in_ok-manifest.ensures.usable c.in_ok-log.ensures.usable c.in_ok-manifest.ensures.ok
+    (kept_first a b now c.args.partitioner c.requires.none c.create.ensures.changes c.create-2.ensures.changes (c.in_ok-manifest.manifest.at + 1) (c.in_ok-log.log.at + 1)
+    (g.met.H.Host.sound c.args.host.now) (g.met.H.Host.sound c.create-2.new.host) c.requires.synced c.in_ok-manifest.ensures.sealed c.in_ok-manifest.ensures.room room)
+
+pub returns-clause-exactly : goal.returns-clause-exactly
+returns-clause-exactly g c =
+    let a = g.H.Host.view c.args.host.now in
+    let b = g.H.Host.view c.create.new.host in
+    let now = g.H.Host.view c.create-2.new.host in
+    let rewritten = subst (λ (l : Listing). IsRewritten l c.in_ok-manifest.manifest.listing) c.new-listing.ensures c.in_ok-manifest.ensures.listing in
+    let room = log_room b now (c.in_ok-log.log.at + 1) c.create-2.ensures.changes c.in_ok-log.ensures.room in
+    let opened : Opened = record { manifest = c.in_ok-manifest.manifest; log = c.in_ok-log.log; tables = c.new.result; numbers = record { manifest = 1; log = 1; «data» = 0; index = 0; part = 0 }; greatest = 0 } in
+    first_exactly c.args.partitioner opened (rewritten, c.in_ok-manifest.ensures.number, c.in_ok-log.ensures.file, c.new.ensures.items, refl, refl) now
     (kept_first a b now c.args.partitioner c.requires.none c.create.ensures.changes c.create-2.ensures.changes (c.in_ok-manifest.manifest.at + 1) (c.in_ok-log.log.at + 1)
     (g.met.H.Host.sound c.args.host.now) (g.met.H.Host.sound c.create-2.new.host) c.requires.synced c.in_ok-manifest.ensures.sealed c.in_ok-manifest.ensures.room room)
 

@@ -110,6 +110,9 @@ returns-clause-timed g c = c.in_ok-opened.ensures.timed
 pub returns-clause-ready : goal.returns-clause-ready
 returns-clause-ready g c = c.in_ok-opened.ensures.ready
 
+pub returns-clause-exactly : goal.returns-clause-exactly
+returns-clause-exactly g c = c.in_ok-opened.ensures.exactly
+
 pub returns-clause-serves : goal.returns-clause-serves
 returns-clause-serves g c = c.in_ok-opened.ensures.serves
 

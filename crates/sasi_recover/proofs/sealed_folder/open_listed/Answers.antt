@@ -11,7 +11,7 @@ use Rattle.sasi_recover.specs.declared.opened.Opened.{Opened}
 use Rattle.sasi_recover.specs.ReplayState.{IsReplayOf, seen}
 use Rattle.sasi_recover.specs.Replaying.{LiveSegmentsExist, NoFalseReplayDamage, ReadsAll, ReplayShowsDamage, Replays}
 use Rattle.sasi_recover.proofs.Damaged.{segment_shown}
-use Rattle.sasi_recover.proofs.FolderOpening.{any_then_same, listed_files, opened_opens, opened_ready, opened_serves, replay_undamaged}
+use Rattle.sasi_recover.proofs.FolderOpening.{any_then_same, listed_files, opened_exactly, opened_opens, opened_ready, opened_serves, replay_undamaged}
 use Rattle.sasi_recover.proofs.ReadsOfOpening.{listing_read}
 use Rattle.sasi_recover.proofs.Checking.{moments_then_same, same_any, same_moments}
 use Rattle.sasi_recover.proofs.Untimed.{opened_timed}
@@ -98,6 +98,17 @@ returns-clause-ready g c =
     let room = subst (λ (l : Listing). Reaches e (log_name l.last) (r.log.at + 1)) listing_is c.in_ok-replayed.ensures.room in
     opened_ready a b c.args.manifest c.deref.result.now c.in_ok-greatest.greatest c.args.names.now c.requires.lists (g.met.H.Host.sound c.args.host.now) c.requires.folder_durable c.requires.read listed c.in_ok-greatest.ensures.checked
     e opened (seen r.replay) refl refl c.numbers_in-numbers.ensures c.max.ensures file c.in_ok-replayed.ensures.usable c.replay.ensures.changes room is_replay
+
+pub returns-clause-exactly : goal.returns-clause-exactly
+returns-clause-exactly g c =
+    let a = g.H.Host.view c.args.host.now in
+    let b = g.H.Host.view c.check_and_delete.new.host in
+    let e = g.H.Host.view c.replay.new.host in
+    let r = c.in_ok-replayed.replayed in
+    let listed = listed_files c.args.manifest c.listing.result.now c.in_ok-files.files.items c.deref.result.now c.listing.ensures.listing c.deref.ensures.value c.in_ok-files.ensures.listed in
+    let opened : Opened = record { numbers = c.numbers_in-numbers.result; greatest = c.max.result; tables = r.replay.tables; log = r.log; manifest = c.args.manifest } in
+    opened_exactly a b c.args.manifest c.deref.result.now c.in_ok-greatest.greatest c.args.names.now c.requires.lists (g.met.H.Host.sound c.args.host.now) c.requires.folder_durable c.requires.read listed c.in_ok-greatest.ensures.checked
+    e opened refl c.replay.ensures.changes
 
 pub returns-clause-tables : goal.returns-clause-tables
 returns-clause-tables g c =

@@ -1,4 +1,4 @@
-use Rattle.std.proofs.Common.{arith, ap, ◌∙◌, refl}
+use Rattle.std.proofs.Common.{arith, ap, ◌∙◌, inl, refl}
 use Rattle.std.proofs.lemmas.Result.{err_from_is_err_and}
 use Rattle.sasi_model.specs.Pieces.{piece_of}
 use Rattle.sasi_host.proofs.FailingLaws.{told_on}
@@ -53,7 +53,7 @@ returns-clause-ok g c =
 pub returns-in_err-outcome-clause-causes : goal.returns-in_err-outcome-clause-causes
 returns-in_err-outcome-clause-causes g c =
     let p = err_from_is_err_and c.from_residual.result c.from_residual.ensures.1 in
-    rw (p.1, p.2) (record { ok = tt; stopped = step_stops c.in_err-outcome.field-0.0 _ _ c.in_err-outcome.ensures.causes c.in_err-outcome.ensures.damaged })
+    rw (p.1, p.2) (record { ok = tt; stopped = step_stops _ c.in_err-outcome.field-0.0 _ _ c.in_err-outcome.ensures.causes c.in_err-outcome.ensures.damaged })
 
 pub returns-in_err-outcome-clause-told : goal.returns-in_err-outcome-clause-told
 returns-in_err-outcome-clause-told g c = c.step.ensures.changes.told
@@ -75,14 +75,14 @@ returns-clause-told g c = told_on _ _ _ c.step.ensures.changes.told c.emit_reply
 pub returns-in_err-outcome-clause-no_file_call : goal.returns-in_err-outcome-clause-no_file_call
 returns-in_err-outcome-clause-no_file_call g c w serves needs =
     let no_file_call = rw c.piece.ensures at c.step.ensures.no_file_call in
-    ap (λ h. (g.H.Host.view h).calls) (no_file_call _ _ (names_served _ c.args.session.now.store w serves) (state_served _ c.args.session.now.store w serves) needs)
+    ap (λ h. (g.H.Host.view h).calls) (no_file_call _ _ (names_served _ c.args.session.now.store w serves) (state_served _ c.args.session.now.store w serves) (inl needs))
 
 pub returns-in_err-emit_reply-clause-no_file_call : goal.returns-in_err-emit_reply-clause-no_file_call
 returns-in_err-emit_reply-clause-no_file_call g c w serves needs =
     let no_file_call = rw c.piece.ensures at c.step.ensures.no_file_call in
-    c.emit_reply.ensures.causes.calls ∙ ap (λ h. (g.H.Host.view h).calls) (no_file_call _ _ (names_served _ c.args.session.now.store w serves) (state_served _ c.args.session.now.store w serves) needs)
+    c.emit_reply.ensures.causes.calls ∙ ap (λ h. (g.H.Host.view h).calls) (no_file_call _ _ (names_served _ c.args.session.now.store w serves) (state_served _ c.args.session.now.store w serves) (inl needs))
 
 pub returns-clause-no_file_call : goal.returns-clause-no_file_call
 returns-clause-no_file_call g c w serves needs =
     let no_file_call = rw c.piece.ensures at c.step.ensures.no_file_call in
-    c.emit_reply.ensures.causes.calls ∙ ap (λ h. (g.H.Host.view h).calls) (no_file_call _ _ (names_served _ c.args.session.now.store w serves) (state_served _ c.args.session.now.store w serves) needs)
+    c.emit_reply.ensures.causes.calls ∙ ap (λ h. (g.H.Host.view h).calls) (no_file_call _ _ (names_served _ c.args.session.now.store w serves) (state_served _ c.args.session.now.store w serves) (inl needs))

@@ -46,7 +46,7 @@ find-requires g c =
     let v = view c.args.host.now in
     let w = view c.open.new.host in
     let opened = c.in_ok-opened.opened in
-    let can = findable v w c.args.types.now c.args.file.now opened c.data-name.result c.data-name.ensures c.open.ensures.read.changes c.requires c.in_ok-opened.ensures.file c.in_ok-opened.ensures.types c.in_ok-opened.ensures.ok c.in_ok-opened.ensures.header_and_footer in
+    let can = findable v w c.args.types.now c.args.file.now opened c.data-name.result c.in_ok-opened.ensures.some c.data-name.ensures c.open.ensures.read.changes c.requires c.in_ok-opened.ensures.file c.in_ok-opened.ensures.types c.in_ok-opened.ensures.ok c.in_ok-opened.ensures.header_and_footer in
     record { read = record { there = find_there v w c.args.types.now c.args.file.now opened can; agrees = tt } }
 
 pub returns-in_err-found-clause-damaged : goal.returns-in_err-found-clause-damaged
@@ -55,7 +55,7 @@ returns-in_err-found-clause-damaged g c =
     let v = view c.args.host.now in
     let w = view c.open.new.host in
     let opened = c.in_ok-opened.opened in
-    let can = findable v w c.args.types.now c.args.file.now opened c.data-name.result c.data-name.ensures c.open.ensures.read.changes c.requires c.in_ok-opened.ensures.file c.in_ok-opened.ensures.types c.in_ok-opened.ensures.ok c.in_ok-opened.ensures.header_and_footer in
+    let can = findable v w c.args.types.now c.args.file.now opened c.data-name.result c.in_ok-opened.ensures.some c.data-name.ensures c.open.ensures.read.changes c.requires c.in_ok-opened.ensures.file c.in_ok-opened.ensures.types c.in_ok-opened.ensures.ok c.in_ok-opened.ensures.header_and_footer in
     let p = err_from_is_err_and c.from_residual-in_err-found.result c.from_residual-in_err-found.ensures.1 in
     rw (p.1, p.2) (find_shown v w c.args.types.now c.args.file.now opened can c.in_err-found.field-0.0 c.in_err-found.ensures.damaged)
 
@@ -65,7 +65,7 @@ returns-in_err-found-clause-undamaged g c =
     let v = view c.args.host.now in
     let w = view c.open.new.host in
     let opened = c.in_ok-opened.opened in
-    let can = findable v w c.args.types.now c.args.file.now opened c.data-name.result c.data-name.ensures c.open.ensures.read.changes c.requires c.in_ok-opened.ensures.file c.in_ok-opened.ensures.types c.in_ok-opened.ensures.ok c.in_ok-opened.ensures.header_and_footer in
+    let can = findable v w c.args.types.now c.args.file.now opened c.data-name.result c.in_ok-opened.ensures.some c.data-name.ensures c.open.ensures.read.changes c.requires c.in_ok-opened.ensures.file c.in_ok-opened.ensures.types c.in_ok-opened.ensures.ok c.in_ok-opened.ensures.header_and_footer in
     let p = err_from_is_err_and c.from_residual-in_err-found.result c.from_residual-in_err-found.ensures.1 in
     rw (p.1, p.2) (no_false_find v w c.args.types.now c.args.file.now opened can c.in_err-found.field-0.0 c.in_err-found.ensures.undamaged)
 
@@ -75,7 +75,7 @@ returns-in_err-found-clause-reads g c =
     let v = view c.args.host.now in
     let w = view c.open.new.host in
     let opened = c.in_ok-opened.opened in
-    let can = findable v w c.args.types.now c.args.file.now opened c.data-name.result c.data-name.ensures c.open.ensures.read.changes c.requires c.in_ok-opened.ensures.file c.in_ok-opened.ensures.types c.in_ok-opened.ensures.ok c.in_ok-opened.ensures.header_and_footer in
+    let can = findable v w c.args.types.now c.args.file.now opened c.data-name.result c.in_ok-opened.ensures.some c.data-name.ensures c.open.ensures.read.changes c.requires c.in_ok-opened.ensures.file c.in_ok-opened.ensures.types c.in_ok-opened.ensures.ok c.in_ok-opened.ensures.header_and_footer in
     find_cost v w c.args.types.now c.args.file.now opened can c.args.key.now (view c.find.new.host).reads c.in_ok-opened.ensures.causes.reads c.find.ensures.reads
 
 pub returns-in_err-found-clause-changes : goal.returns-in_err-found-clause-changes
@@ -94,7 +94,7 @@ returns-clause-found g c =
     let v = view c.args.host.now in
     let w = view c.open.new.host in
     let opened = c.in_ok-opened.opened in
-    let can = findable v w c.args.types.now c.args.file.now opened c.data-name.result c.data-name.ensures c.open.ensures.read.changes c.requires c.in_ok-opened.ensures.file c.in_ok-opened.ensures.types c.in_ok-opened.ensures.ok c.in_ok-opened.ensures.header_and_footer in
+    let can = findable v w c.args.types.now c.args.file.now opened c.data-name.result c.in_ok-opened.ensures.some c.data-name.ensures c.open.ensures.read.changes c.requires c.in_ok-opened.ensures.file c.in_ok-opened.ensures.types c.in_ok-opened.ensures.ok c.in_ok-opened.ensures.header_and_footer in
     find_is v w c.args.types.now c.args.file.now opened can c.args.key.now c.in_ok-found.found c.in_ok-found.ensures.ok
 
 pub returns-clause-stored : goal.returns-clause-stored
@@ -103,7 +103,7 @@ returns-clause-stored g c =
     let v = view c.args.host.now in
     let w = view c.open.new.host in
     let opened = c.in_ok-opened.opened in
-    let can = findable v w c.args.types.now c.args.file.now opened c.data-name.result c.data-name.ensures c.open.ensures.read.changes c.requires c.in_ok-opened.ensures.file c.in_ok-opened.ensures.types c.in_ok-opened.ensures.ok c.in_ok-opened.ensures.header_and_footer in
+    let can = findable v w c.args.types.now c.args.file.now opened c.data-name.result c.in_ok-opened.ensures.some c.data-name.ensures c.open.ensures.read.changes c.requires c.in_ok-opened.ensures.file c.in_ok-opened.ensures.types c.in_ok-opened.ensures.ok c.in_ok-opened.ensures.header_and_footer in
     find_stored v w c.args.types.now c.args.file.now opened can c.args.key.now c.in_ok-found.found c.in_ok-found.ensures.stands
 
 pub returns-clause-reads : goal.returns-clause-reads
@@ -112,7 +112,7 @@ returns-clause-reads g c =
     let v = view c.args.host.now in
     let w = view c.open.new.host in
     let opened = c.in_ok-opened.opened in
-    let can = findable v w c.args.types.now c.args.file.now opened c.data-name.result c.data-name.ensures c.open.ensures.read.changes c.requires c.in_ok-opened.ensures.file c.in_ok-opened.ensures.types c.in_ok-opened.ensures.ok c.in_ok-opened.ensures.header_and_footer in
+    let can = findable v w c.args.types.now c.args.file.now opened c.data-name.result c.in_ok-opened.ensures.some c.data-name.ensures c.open.ensures.read.changes c.requires c.in_ok-opened.ensures.file c.in_ok-opened.ensures.types c.in_ok-opened.ensures.ok c.in_ok-opened.ensures.header_and_footer in
     find_cost v w c.args.types.now c.args.file.now opened can c.args.key.now (view c.find.new.host).reads c.in_ok-opened.ensures.causes.reads c.find.ensures.reads
 
 pub returns-clause-changes : goal.returns-clause-changes

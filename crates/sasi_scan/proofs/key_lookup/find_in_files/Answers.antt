@@ -7,7 +7,7 @@ use Rattle.sasi_scan.specs.Parts.{IsMergeOfParts}
 use Rattle.sasi_scan.proofs.Costs.{causes_behind, causes_memory, causes_of_fault, causes_ok}
 use Rattle.sasi_scan.proofs.KeyLookups.{body_of_part, file_fails, file_next, looking_begins, looking_ends, looking_reads}
 use Rattle.sasi_scan.proofs.Moves.{joined_of}
-use Rattle.sasi_scan.proofs.Openings.{next_shown, no_false_next, still_there}
+use Rattle.sasi_scan.proofs.Openings.{next_shown, no_false_find, still_there}
 use Rattle.sasi_scan.proofs.key_lookup.find_in_files.Goals as goal
 
 pub loop-file-init : goal.loop-file-init
@@ -34,7 +34,7 @@ pub returns-in_err-part-clause-undamaged : goal.returns-in_err-part-clause-undam
 returns-in_err-part-clause-undamaged g c =
     let view = g.H.Host.view in
     let p = err_from_is_err_and c.from_residual.result c.from_residual.ensures.1 in
-    rw (p.1, p.2) (no_false_next (view c.args.host.now) (view c.loop-file.host) c.args.types.now c.args.files.now c.loop-file.file-index c.file-item.result c.in_err-part.field-0.0 c.loop-file.invariant.changes c.loop-file-test.true c.file-item.is c.in_err-part.ensures.undamaged)
+    rw (p.1, p.2) (no_false_find (view c.args.host.now) (view c.loop-file.host) c.args.types.now c.args.files.now c.loop-file.file-index c.file-item.result c.in_err-part.field-0.0 c.loop-file.invariant.changes c.loop-file-test.true c.file-item.is c.in_err-part.ensures.undamaged)
 
 pub returns-in_err-part-clause-changes : goal.returns-in_err-part-clause-changes
 returns-in_err-part-clause-changes g c = then_same _ _ _ Same c.loop-file.invariant.changes c.find_in_file.ensures.changes

@@ -5,11 +5,17 @@ use Rattle.sasi_scan.proofs.source.next_in_file.Goals as goal
 pub next-requires-clause-read : goal.next-requires-clause-read
 next-requires-clause-read g c = record { there = c.requires.there; agrees = tt }
 
+pub next-requires-clause-last : goal.next-requires-clause-last
+next-requires-clause-last g c = c.requires.last_key
+
+pub next-requires-clause-at_last : goal.next-requires-clause-at_last
+next-requires-clause-at_last g c = c.requires.at_last
+
 pub returns-clause-steps : goal.returns-clause-steps
 returns-clause-steps g c =
     let view = g.H.Host.view in
     scan_steps (view c.args.host.now) (view c.next.new.host) c.args.scan.now c.next.new.self c.next.result c.next.ensures.read.changes c.requires c.next.ensures.opened c.next.ensures.pairs_named c.next.ensures.named
-    c.next.ensures.pairs_buffered c.next.ensures.buffered c.next.ensures.ok c.next.ensures.in_table
+    c.next.ensures.pairs_buffered c.next.ensures.buffered c.next.ensures.at_last c.next.ensures.last_key c.next.ensures.tokens c.next.ensures.rises c.next.ensures.last c.next.ensures.passes c.next.ensures.ok c.next.ensures.in_table
 
 pub returns-clause-damaged : goal.returns-clause-damaged
 returns-clause-damaged g c = c.next.ensures.damaged

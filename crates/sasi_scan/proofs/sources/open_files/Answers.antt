@@ -25,7 +25,7 @@ pub returns-in_err-open_source-clause-undamaged : goal.returns-in_err-open_sourc
 returns-in_err-open_source-clause-undamaged g c =
     let view = g.H.Host.view in
     let p = err_from_is_err_and c.from_residual.result c.from_residual.ensures.1 in
-    rw (p.1, p.2) (no_false_next (view c.args.host.now) (view c.loop-file.host) c.args.types.now c.args.files.now c.loop-file.file-index c.file-item.result c.in_err-open_source.field-0.0 c.loop-file.invariant.changes c.loop-file-test.true c.file-item.is c.in_err-open_source.ensures.undamaged)
+    rw (p.1, p.2) (no_false_next (view c.args.host.now) (view c.loop-file.host) c.args.types.now c.args.tokens c.args.files.now c.loop-file.file-index c.file-item.result c.in_err-open_source.field-0.0 c.loop-file.invariant.changes c.loop-file-test.true c.file-item.is c.in_err-open_source.ensures.undamaged)
 
 pub returns-in_err-open_source-clause-changes : goal.returns-in_err-open_source-clause-changes
 returns-in_err-open_source-clause-changes g c = then_same _ _ _ Same c.loop-file.invariant.changes c.open_source.ensures.changes
@@ -40,7 +40,7 @@ pub loop-file-preserved : goal.loop-file-preserved
 loop-file-preserved g c =
     let view = g.H.Host.view in
     record {
-      opened = added_next (view c.args.host.now) (view c.loop-file.host) c.args.types.now c.args.files.now c.loop-file.file-index c.file-item.result c.loop-file.heads c.loop-file.sources.items c.open_source.new.heads c.open_source.new.sources.items
+      opened = added_next (view c.args.host.now) (view c.loop-file.host) c.args.types.now c.args.tokens c.args.files.now c.loop-file.file-index c.file-item.result c.loop-file.heads c.loop-file.sources.items c.open_source.new.heads c.open_source.new.sources.items
           c.loop-file.invariant.changes c.loop-file-test.true c.file-item.is c.loop-file.invariant.opened c.in_ok-open_source.ensures.opened;
       reads = λ p contents have.
           next_reads (view c.args.host.now) (view c.loop-file.host) (view c.open_source.new.host) p c.args.types.now c.args.files.now contents c.loop-file.file-index c.file-item.result c.loop-file.sources.items c.open_source.new.sources.items
@@ -51,7 +51,7 @@ loop-file-preserved g c =
     }
 
 pub returns-clause-opened : goal.returns-clause-opened
-returns-clause-opened g c = opened_all (g.H.Host.view c.args.host.now).files c.args.types.now c.args.files.now c.loop-file.file-index c.loop-file.heads c.loop-file.sources.items (omega (arith, c.loop-file-test.false)) c.loop-file.invariant.opened
+returns-clause-opened g c = opened_all (g.H.Host.view c.args.host.now).files c.args.types.now c.args.tokens c.args.files.now c.loop-file.file-index c.loop-file.heads c.loop-file.sources.items (omega (arith, c.loop-file-test.false)) c.loop-file.invariant.opened
 
 pub returns-clause-changes : goal.returns-clause-changes
 returns-clause-changes g c = c.loop-file.invariant.changes

@@ -12,7 +12,7 @@ abbrev pub invariant-loop-file : goal.invariant-loop-file
 invariant-loop-file g l =
     let view = g.H.Host.view in
     record {
-      opened : AreOpened (view l.fn.host).files l.types (take l.file-index l.files) l.heads l.sources.items;
+      opened : AreOpened (view l.fn.host).files l.types l.tokens (take l.file-index l.files) l.heads l.sources.items;
       reads : (partitioner : Partitioner) (contents : List Content) → AreContents (view l.fn.host).files partitioner l.types l.files contents → OpensReading (view l.fn.host).files partitioner (table_reads (view l.fn.host).files (take l.file-index l.files)) [] l.sources.items (view l.fn.host).reads (view l.host).reads;
       changes : Changes Same (view l.fn.host) (view l.host);
       disk : (view l.host).disk_faults ≡ (view l.fn.host).disk_faults;

@@ -1,11 +1,15 @@
-use Rattle.std.proofs.Common.{Option, length, subst, sym, arith}
+use Rattle.std.proofs.Common.{◌≡◌, Option, length, subst, sym, arith}
+use Rattle.std.specs.declared.cmp.Ordering.TheVariants.{Less}
 use Rattle.std.proofs.lemmas.Result.{err_from_is_err_and}
+use Rattle.sasi_types.specs.DecoratedKey.{decorated_cmp}
+use Rattle.sasi_types.specs.Token.{token_of}
 use Rattle.sasi_host.proofs.ChangeLaws.{stays}
 use Rattle.sasi_host.specs.Names.{Folder}
 use Rattle.sasi_merge.specs.Merging.{IsLeastKey}
 use Rattle.sasi_merge.proofs.LeastKeys.{gives_least}
 use Rattle.sasi_scan.specs.Scanning.{CanScan, scan_of}
 use Rattle.sasi_scan.proofs.Costs.{causes_of_fault, causes_ok, reads_same}
+use Rattle.sasi_scan.proofs.KeyOrder.{all_above, has_least, least_has, moved_under}
 use Rattle.sasi_scan.proofs.Moves.{least_of, moved_scan, next_given, none_given, still_of}
 use Rattle.sasi_scan.proofs.Pages.{moves_may, stays_may}
 use Rattle.sasi_scan.proofs.table_scan.next_of.Goals as goal
@@ -88,3 +92,24 @@ pub returns-in_err-advance-in-Some-clause-causes : goal.returns-in_err-advance-i
 returns-in_err-advance-in-Some-clause-causes g c =
     let q = err_from_is_err_and c.from_residual-in_err-advance-in-Some.result c.from_residual-in_err-advance-in-Some.ensures.1 in
     rw (q.1, q.2) (causes_of_fault _ _ c.in_err-advance-in-Some.field-0.0 c.in_err-advance-in-Some.ensures.causes)
+
+-- ---- the order of the keys
+
+pub returns-in_ok-advance-in-Some-clause-rises : goal.returns-in_ok-advance-in-Some-clause-rises
+returns-in_ok-advance-in-Some-clause-rises g c =
+    let heads = c.args.heads.now in
+    let key = c.in-Some.key in
+    let least = subst (IsLeastKey heads) c.in-Some.is c.in_ok-least_key.ensures in
+    record {
+      token = key.token;
+      above = λ last above. least_has key (λ k. decorated_cmp last k ≡ Less) heads above least.0;
+      behind = all_above (g.H.Host.view c.args.host.now).files c.args.maps.now key heads c.args.sources.now.items c.advance.new.heads c.advance.new.sources.items c.in_ok-advance-in-Some.ensures.moved c.requires.can c.requires.given least.1;
+      token_is = λ p under. least_has key (λ k. k.token ≡ token_of p k.key) heads under.heads least.0;
+    }
+
+pub returns-in_ok-advance-in-Some-clause-under : goal.returns-in_ok-advance-in-Some-clause-under
+returns-in_ok-advance-in-Some-clause-under g c p under =
+    moved_under (g.H.Host.view c.args.host.now).files c.args.maps.now c.in-Some.key p (length c.args.sources.now.items) c.args.heads.now c.args.sources.now.items c.advance.new.heads c.advance.new.sources.items c.in_ok-advance-in-Some.ensures.moved under
+
+pub returns-in-None-clause-some : goal.returns-in-None-clause-some
+returns-in-None-clause-some g c some = absurd (has_least c.args.heads.now c.args.sources.now.items some (subst (IsLeastKey c.args.heads.now) c.in-None.is c.in_ok-least_key.ensures))

@@ -4,7 +4,7 @@ use Rattle.sasi_host.specs.Disk.{Same}
 use Rattle.sasi_host.proofs.ChangeLaws.{then_same}
 use Rattle.sasi_recheck.specs.Sources.{first_price}
 use Rattle.sasi_sources.specs.ScanCandidates.{ScanPays}
-use Rattle.sasi_sources.proofs.ScanGiving.{begun_leaves, begun_pays, begun_ready, open_given, open_pays, open_prints, open_ready, shown_before, spent_then}
+use Rattle.sasi_sources.proofs.ScanGiving.{begun_leaves, begun_pays, begun_ready, begun_undamaged, open_given, open_pays, open_prints, open_ready, shown_before, spent_then}
 use Rattle.sasi_sources.proofs.scan_candidates.begin.Goals as goal
 
 -- ---- a call that failed behind the opening
@@ -28,6 +28,14 @@ returns-in_err-found-clause-damaged g c =
 pub returns-in_err-found-clause-changes : goal.returns-in_err-found-clause-changes
 returns-in_err-found-clause-changes g c = then_same _ _ _ Same c.open.ensures.changes c.next.ensures.changes
 
+pub returns-in_err-found-clause-undamaged : goal.returns-in_err-found-clause-undamaged
+returns-in_err-found-clause-undamaged g c =
+    let v = g.H.Host.view c.args.host.now in
+    let u = g.H.Host.view c.open.new.host in
+    let q = err_from_is_err_and c.from_residual-in_err-found.result c.from_residual-in_err-found.ensures.1 in
+    rw (q.1, q.2) (begun_undamaged c.args.types.now c.args.files.now c.args.maps.now v u c.open.ensures.changes c.in_ok-scan.scan c.in_ok-scan.ensures.is_of
+    (λ p contents. c.in_ok-scan.ensures.opened p contents tt) c.in_err-found.field-0.0 c.in_err-found.ensures.undamaged)
+
 -- ---- the first key
 
 pub returns-clause-gives : goal.returns-clause-gives
@@ -36,7 +44,7 @@ returns-clause-gives g c left leaves =
     let u = g.H.Host.view c.open.new.host in
     let w = g.H.Host.view c.next.new.host in
     open_given c.args.types.now c.args.files.now c.args.maps.now u w c.next.ensures.changes c.in_ok-scan.scan c.next.new.self (Ok c.in_ok-found.found) c.in_ok-found.ensures.next c.in_ok-found.ensures.is_of left
-    (begun_leaves c.args.types.now c.args.files.now c.args.maps.now v u c.open.ensures.changes c.in_ok-scan.scan c.in_ok-scan.ensures.is_of c.in_ok-scan.ensures.opened left leaves)
+    (begun_leaves c.args.types.now c.args.files.now c.args.maps.now v u c.open.ensures.changes c.in_ok-scan.scan c.in_ok-scan.ensures.is_of (λ p contents. c.in_ok-scan.ensures.opened p contents tt) left leaves)
 
 pub returns-clause-reads : goal.returns-clause-reads
 returns-clause-reads g c most prices pays =

@@ -22,18 +22,18 @@ use Rattle.sasi_store.specs.CursorCalls.{IsOpened}
 use Rattle.sasi_store.specs.Cursors.{Opened}
 use Rattle.sasi_store.specs.declared.session_state.OpenCursor.{OpenCursor}
 use Rattle.sasi_store.proofs.Known.{known_after}
-use Rattle.sasi_store.proofs.OpenedCursors.{frozen_manifest, is_opened}
+use Rattle.sasi_store.proofs.OpenedCursors.{frozen_manifest, frozen_numbers_stay, is_opened}
 use Rattle.sasi_store.proofs.OpenedViews.{aside_once}
 use Rattle.sasi_store.proofs.ViewFiles.{view_once}
 use Rattle.sasi_store.proofs.cursors.open_cursor.Goals as goal
 
 pub freeze-requires-clause-listed : goal.freeze-requires-clause-listed
-freeze-requires-clause-listed g c = c.requires.ready.definitions
+freeze-requires-clause-listed g c = c.requires.ready.can.definitions
 
 pub freeze-requires-clause-there : goal.freeze-requires-clause-there
 freeze-requires-clause-there g c =
     let there = c.requires.there in
-    has_table (g.H.Host.view c.args.host.now) c.args.parts.now c.args.asked.now.rows.table there.definition c.requires.ready there.some there.there
+    has_table (g.H.Host.view c.args.host.now) c.args.parts.now c.args.asked.now.rows.table there.definition c.requires.ready.can there.some there.there
 
 pub plan_for-requires-clause-classes : goal.plan_for-requires-clause-classes
 plan_for-requires-clause-classes g c =
@@ -79,7 +79,7 @@ take-requires-clause-once g c =
     let table = c.args.asked.now.rows.table in
     let is = c.in_ok-plan.ensures.plan in
     let own = inside_there new.tables.items (table - 1) (omega (arith, is.some, is.within)) in
-    subst ListsOnce (sym c.in_ok-listed.ensures) (aside_once new table own.0 own.1 (view_once v new (c.in_ok-freeze.ensures.ready c.requires.ready) table c.in_ok-freeze.ensures.parts))
+    subst ListsOnce (sym c.in_ok-listed.ensures) (aside_once new table own.0 own.1 (view_once v new (c.in_ok-freeze.ensures.ready c.requires.ready.can) table c.in_ok-freeze.ensures.parts))
 
 pub returns-in_err-view-clause-kinds : goal.returns-in_err-view-clause-kinds
 returns-in_err-view-clause-kinds g c = c.plan_for.ensures.kinds ∙ c.freeze.ensures.kinds
@@ -101,10 +101,10 @@ returns-clause-opened g c =
     let there = c.requires.there in
     let e = c.in_ok-freeze.ensures in
     let listed = c.in_ok-view.ensures.parts ∙ c.in_ok-listed.ensures in
-    let held = table_at old table (has_table v old table there.definition c.requires.ready there.some there.there) in
+    let held = table_at old table (has_table v old table there.definition c.requires.ready.can there.some there.there) in
     let was = c.args.session.now in
     subst (λ (es : Opened). IsOpened kinds v c.args.asked.now old new was (record was { views = c.take.new.self; cursors = es })) (sym c.in_ok-add_cursor.ensures)
-    (is_opened kinds v (g.met.H.Host.sound c.args.host.now) c.args.asked.now old new c.args.session.now c.take.new.self c.new-rows.result c.requires.cursors c.requires.classes e.serves (e.ready c.requires.ready) e.parts e.knows
+    (is_opened kinds v (g.met.H.Host.sound c.args.host.now) c.args.asked.now old new c.args.session.now c.take.new.self c.new-rows.result c.requires.cursors c.requires.classes e.serves (e.ready c.requires.ready.can) e.parts c.requires.ready (frozen_numbers_stay table old new held.0 held.1 e.frozen) e.knows
     (frozen_manifest table old new held.0 held.1 e.frozen) (e.pinned c.args.session.now.views) e.empty plan c.in_ok-plan.ensures.plan
     (subst (λ (ks : List Class). KnowsWhere ks plan.conditions) c.freeze.ensures.kinds c.in_ok-plan.ensures.known)
     (subst (λ (ps : List Part). Taken c.args.session.now.views c.take.new.self (components_of ps)) c.in_ok-listed.ensures c.in_ok-view.ensures.taken) c.requires.few (c.new-rows.ensures.view ∙ listed) c.new-rows.ensures.picked c.new-rows.ensures.conditions

@@ -7,4 +7,4 @@ pub returns : goal.returns
 returns c = c.new.ensures ∙ ap (λ (o : OpenDataFile). begun o) c.in_ok-copy.ensures
   where
     begun : OpenDataFile → DataScan
-    begun o = record { opened = o; passed = 0; pairs_buffered = record { file = o.file; page = None; bytes = [] }; buffered = record { file = o.file; page = None; bytes = [] } }
+    begun o = record { opened = o; tokens = None; passed = 0; pairs_buffered = record { file = o.file; page = None; bytes = [] }; buffered = record { file = o.file; page = None; bytes = [] }; last_pair = None; last = None }

@@ -19,7 +19,7 @@ pub next_key-requires : goal.next_key-requires
 next_key-requires g c =
     let w = g.H.Host.view c.open_keys.new.host in
     let ready = c.in_ok-tree.ensures.ready in
-    record { read = can_read_on _ w c.args.self.now.file c.in_ok-tree.tree.buffered ready.named ready.buffered (can_still _ _ _ _ _ _ (g.H.Host.view c.args.host.now) w c.requires.read c.open_keys.ensures.read) }
+    record { read = can_read_on _ w c.args.self.now.file c.in_ok-tree.tree.buffered ready.named ready.buffered (can_still _ _ _ _ _ _ (g.H.Host.view c.args.host.now) w c.requires.read c.open_keys.ensures.read); last = ready.at_last }
 
 pub returns-clause-gives : goal.returns-clause-gives
 returns-clause-gives g c es is =
@@ -100,7 +100,7 @@ returns-clause-reads g c most is =
     (λ rest pays. (let one = c.in_ok-found.ensures.reads rest pays.1 in (one.0, (c.next_key.ensures.read.file ∙ pays.0, one.1), one.2)))
 
 pub returns-clause-ready : goal.returns-clause-ready
-returns-clause-ready g c = scans_on c.args.self.now.file c.in_ok-tree.tree c.next_key.new.tree _ _ _ (g.H.Host.view c.open_keys.new.host) (g.H.Host.view c.next_key.new.host) c.next_key.ensures.tree c.next_key.ensures.read c.in_ok-tree.ensures.ready
+returns-clause-ready g c = scans_on c.args.self.now.file c.in_ok-tree.tree c.next_key.new.tree _ _ _ (g.H.Host.view c.open_keys.new.host) (g.H.Host.view c.next_key.new.host) c.next_key.ensures.tree c.next_key.ensures.read c.next_key.ensures.at_last c.in_ok-tree.ensures.ready
 
 pub returns-clause-faults : goal.returns-clause-faults
 returns-clause-faults g c =

@@ -1,9 +1,10 @@
-use Rattle.std.proofs.Common.{◌+◌, ◌≤◌, ℕ, List, IfErr, IfOk, IfSome, MatchResult, OnOk, subst, sym}
+use Rattle.std.proofs.Common.{◌+◌, ◌≤◌, ℕ, List, IfErr, IfOk, IfSome, IsSome, MatchResult, OnOk, subst, sym}
 use Rattle.sasi_types.specs.declared.column.ColumnType.{ColumnType}
 use Rattle.sasi_types.specs.declared.partitioner.Partitioner.{Partitioner}
 use Rattle.sasi_host.specs.Damages.{OnDamage}
 use Rattle.sasi_manifest.specs.declared.files.ListedFile.{ListedFile}
 use Rattle.sasi_merge.specs.Streams.{Entries}
+use Rattle.sasi_scan.specs.KeyOrder.{GivesAbove, HasHead, IsUnder}
 use Rattle.sasi_scan.specs.Parts.{IsMergeOfParts, ShowsListed}
 use Rattle.sasi_scan.specs.Scanning.{CanScan, GivesFirst, HasReadsLeft, IsScanOf, IsScanning, MayRead, ScanView, scan_of}
 use Rattle.sasi_scan.proofs.table_scan.TableScan.next.Goals as goal
@@ -43,3 +44,14 @@ pub returns-clause-undamaged : goal.returns-clause-undamaged
 returns-clause-undamaged g c =
     let seen = (g.H.Host.view c.args.host.now).files in
     subst (λ (scan : ScanView). (partitioner : Partitioner) (left : Entries) → IsScanning seen partitioner c.args.maps.now scan left → IfErr c.next_of.result (OnDamage (λ _. ⊥))) c.self.view_is c.next_of.ensures.undamaged
+
+pub returns-clause-rises : goal.returns-clause-rises
+returns-clause-rises g c =
+    subst (λ (scan : ScanView). IfOk c.next_of.result (λ found. IfSome found (GivesAbove scan (scan_of c.next_of.new.heads c.next_of.new.sources.items)))) c.self.view_is c.next_of.ensures.rises
+
+pub returns-clause-under : goal.returns-clause-under
+returns-clause-under g c =
+    subst (λ (scan : ScanView). (partitioner : Partitioner) → IsUnder partitioner scan → OnOk c.next_of.result (IsUnder partitioner (scan_of c.next_of.new.heads c.next_of.new.sources.items))) c.self.view_is c.next_of.ensures.under
+
+pub returns-clause-some : goal.returns-clause-some
+returns-clause-some g c = subst (λ (scan : ScanView). HasHead scan → IfOk c.next_of.result (λ found. IsSome found)) c.self.view_is c.next_of.ensures.some

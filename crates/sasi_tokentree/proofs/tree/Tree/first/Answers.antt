@@ -4,6 +4,7 @@ use Rattle.sasi_host.specs.Damages.{DamageShown}
 use Rattle.sasi_tokentree.specs.Damages.{BeginsLeaf, ShowsTreeBy}
 use Rattle.sasi_tokentree.specs.Reads.{NoFalseTreeDamage}
 use Rattle.sasi_tokentree.specs.Scans.{ReadsEntry, ReadsFirstPair, ReadsHeader, StepsBehindCounted, PairScan}
+use Rattle.sasi_tokentree.proofs.Rising.{last_read, last_still}
 use Rattle.sasi_tokentree.proofs.tree.Tree.first.Goals as goal
 
 pub returns-in_err-found-clause-undamaged : goal.returns-in_err-found-clause-undamaged
@@ -32,3 +33,7 @@ returns-clause-header g c = subst (λ (h : PairScan). ReadsHeader (g.H.Host.view
 pub returns-clause-ends : goal.returns-clause-ends
 returns-clause-ends g c = subst (λ (h : PairScan). StepsBehindCounted (g.H.Host.view c.args.host.now) h.buffered.file h.tree c.args.token c.in_ok-found.found.passed
     c.in_ok-found.found.pair) c.self.view_is c.in_ok-found.ensures.ends
+
+pub returns-clause-at_last : goal.returns-clause-at_last
+returns-clause-at_last g c = last_still (g.H.Host.view c.args.host.now) (g.H.Host.view c.first_from.new.host) c.self.inside.buffered.file c.first_from.new.buffered.file c.self.inside.tree c.in_ok-found.found.passed c.in_ok-found.found.pair c.first_from.ensures.read.changes c.first_from.ensures.read.file
+    (last_read (g.H.Host.view c.args.host.now) c.self.inside.buffered.file c.self.inside.tree c.in_ok-found.found.passed c.in_ok-found.found.pair c.in_ok-found.ensures.stands)

@@ -1,6 +1,6 @@
-use Rattle.std.proofs.Common.{ap, arith, inl, refl, subst, Option, Some}
+use Rattle.std.proofs.Common.{ap, arith, inl, refl, subst, Option, Some, sym}
 use Rattle.sasi_host.proofs.ChangeLaws.{stays}
-use Rattle.sasi_tokentree.specs.Scans.{PairScan}
+use Rattle.sasi_tokentree.specs.Scans.{IsAtLast, PairScan}
 use Rattle.sasi_treemerge.specs.declared.tree_source.TreeSource.{TreeSource}
 use Rattle.sasi_treemerge.specs.Merges.{AdvancesTo}
 use Rattle.sasi_treemerge.proofs.Merging.{can_add, merge_still, source_readable, tree_pairs}
@@ -37,3 +37,6 @@ returns-in_ok-put-in-Some-clause-ok g c =
       advances = subst (λ (s : PairScan). AdvancesTo v s (Some c.in-Some.source)) c.in_ok-tree.ensures (subst (λ (o : Option TreeSource). AdvancesTo v c.in_ok-tree.tree.value o) c.in-Some.is c.in_ok-source_of.ensures.ok);
       put = c.in_ok-put-in-Some.ensures.put;
     }
+
+pub source_of-requires-clause-last : goal.source_of-requires-clause-last
+source_of-requires-clause-last g c = subst (λ (s : PairScan). IsAtLast s (g.H.Host.view c.args.host.now).files) (sym c.in_ok-tree.ensures) (λ bytes told. tt)

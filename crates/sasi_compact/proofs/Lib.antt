@@ -1,0 +1,14 @@
+pub mod Beginning
+pub mod Faults
+pub mod Finishing
+pub mod IndexedCells
+pub mod KeysRise
+pub mod LastUnit
+pub mod MergedBodies
+pub mod Passing
+pub mod RecordLength
+pub mod ScanStays
+pub mod SomeLeft
+pub mod Stepping
+pub mod TaskLaws
+pub mod Units

@@ -1,0 +1,4 @@
+pub mod Tasks
+pub mod Running
+pub mod MakesTaskMoves
+pub mod Unheld
