@@ -2,10 +2,9 @@
 """Compacts ten data files of 100,000 rows each, without indexes and with two, and prints what it costs.
 
 - A COMPACT: the processor's seconds and the peak memory beyond a run that does nothing on the same folder; the bytes that it reads and writes, as
-  strace counts them where it is installed, against those of the files that it takes in and that it makes. Each page of a file may be read once by
-  the pass over the files, and once more where it is looked for whether keys are left.
+  strace counts them where it is installed, beside those of the files that it takes in and that it makes: each page of a data file is read once.
 - A SELECT of all rows before it and after it, which has to give the same rows, and of the rows with one number where that is indexed.
-- The same in 1,000 pieces by STEP COMPACT, whose time for each piece is told.
+- The same in 1,000 pieces by STEP COMPACT, whose time for each key is told.
 
 A memtable is flushed by itself at 65,536 cells, so no script makes files of 100,000 rows: this one writes them, as docs/FORMATS.md says. Beside it
 sqlite3 does a VACUUM of the same rows, where it is installed. All folders stand in memory, where a sync costs nothing.
@@ -99,7 +98,7 @@ def measure_compact(program, top, folder, idle):
     sources = data_names(folder)
     taken = size_of(folder, sources)
     runs = []
-    for at in range(TRIES):
+    for _ in range(TRIES):
         copy = copied(folder, top, 'copy')
         runs.append(run([program, copy, compact]))
         shutil.rmtree(copy)
@@ -138,7 +137,7 @@ def measure_sqlite(top, rows, indexed):
     base = os.path.join(top, 'base.db')
     inserts = ("INSERT INTO t VALUES ('%s', '%s', %d);\n" % (key, a, n) for key, _, (a, n) in map(row, range(rows)))
     fill = script(top, 'fill', [SQLITE, *inserts, 'COMMIT;\n', SQLITE_INDEXES if indexed else ''])
-    seconds, memory, status = measured(['sqlite3', base], read=fill)
+    measured(['sqlite3', base], read=fill)
     taken = []
     for _ in range(TRIES):
         taken.append(run(['sqlite3', base, 'VACUUM']))
