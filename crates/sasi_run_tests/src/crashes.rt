@@ -1,7 +1,7 @@
 // What a run finds after a crash or a fault at any call of an earlier one.
 use crate::cases::{
-    Answer, Case, flush, flushes_of_two_tables, indexed_flush, indexed_flushes_of_two_tables,
-    insert,
+    Answer, Case, compaction, flush, flushes_of_two_tables, indexed_flush,
+    indexed_flushes_of_two_tables, insert, stepped_compaction,
 };
 use crate::runs::{crashed, picks, run_script};
 use sasi_host::{MemHost, Pick};
@@ -9,16 +9,20 @@ use sasi_run::{Status, starts_again};
 use std::alloc::Global;
 use std::process::Abort;
 
-/// The replies of a script of ten statements.
-const REPLIES: &str = "ok\nok\nok\nok\nok\nok\nok\nok\nok\nok\n";
-
 /// How many replies were emitted: all of them whole.
-fn replies_in(rt: &impl Abort, emitted: &[u8]) -> usize {
-    assert!(rt;
-        REPLIES.as_bytes().starts_with(emitted) && emitted.len() % 3 == 0,
-        "whole replies"
-    );
-    emitted.len() / 3
+fn replies_in(rt: &impl Abort, case: &Case<'_>, emitted: &[u8]) -> usize {
+    let mut count: usize = 0;
+    let mut rest = emitted;
+    for reply in case.replies {
+        if !rest.is_empty() {
+            rest = rest
+                .strip_prefix(reply.as_bytes())
+                .expect(rt, "a whole reply");
+            count = count.saturating_add(1);
+        }
+    }
+    assert!(rt; rest.is_empty(), "no more than the replies");
+    count
 }
 
 // Whether a run answered so.
@@ -179,7 +183,7 @@ fn stopped_run(rt: &impl Abort, alloc: Global, case: &Case<'_>, stop: u64) -> (M
         status == status_after(case, stop),
         "the status after {stop} calls"
     );
-    (host, replies_in(rt, &emitted))
+    (host, replies_in(rt, case, &emitted))
 }
 
 /// Crashes of a run that is stopped after so many calls.
@@ -235,13 +239,32 @@ fn check_crashes(rt: &impl Abort, alloc: Global, case: &Case<'_>, host: &MemHost
     }
 }
 
+/// The crashes of runs that are stopped after each number of calls, where the recovery goes through.
+fn check_each_crash(rt: &impl Abort, alloc: Global, case: &Case<'_>) {
+    for stop in 0..=calls_of(case) {
+        let (host, replies) = stopped_run(rt, alloc, case, stop);
+        assert!(rt; replies == replies_after(case, stop));
+        check_crashes(rt, alloc, case, &host, replies);
+    }
+}
+
+#[test]
+fn crash_in_a_compaction_leaves_its_sources_or_its_file(rt: HostRuntime) {
+    check_each_crash(&rt, rt.alloc(), &compaction());
+}
+
+#[test]
+fn crash_in_a_stepped_compaction_leaves_its_sources_or_its_file(rt: HostRuntime) {
+    check_each_crash(&rt, rt.alloc(), &stepped_compaction());
+}
+
 /// A run whose call of this number on the disk fails. Gives the host, and how many replies were emitted.
 fn failed_run(rt: &impl Abort, alloc: Global, case: &Case<'_>, failing: u64) -> (MemHost, usize) {
     let mut host = MemHost::new(alloc);
     host.fail_disk(vec![in alloc; failing].expect(rt, "memory"));
     let (status, emitted) = run_script(rt, alloc, case.script, &mut host);
     assert!(rt; status == Status::FolderFault);
-    (host, replies_in(rt, &emitted))
+    (host, replies_in(rt, case, &emitted))
 }
 
 // How many replies are emitted before the call of this number on the disk.
@@ -287,4 +310,14 @@ fn failed_call_of_a_flush_ends_the_run(rt: HostRuntime) {
 #[test]
 fn failed_call_of_a_flush_of_indexes_ends_the_run(rt: HostRuntime) {
     check_each_failing(&rt, rt.alloc(), &indexed_flushes_of_two_tables());
+}
+
+#[test]
+fn failed_call_of_a_compaction_ends_the_run(rt: HostRuntime) {
+    check_each_failing(&rt, rt.alloc(), &compaction());
+}
+
+#[test]
+fn failed_call_of_a_stepped_compaction_ends_the_run(rt: HostRuntime) {
+    check_each_failing(&rt, rt.alloc(), &stepped_compaction());
 }
